@@ -1,0 +1,9 @@
+use borrow.Author.Needs.{needs}
+use Rattle.machine.proofs.turn.went.Statement.{statement}
+use Rattle.machine.proofs.turn.went.Tie as tie
+
+pub went-spec : {M : Type 1} → statement M
+went-spec = tie.close (tie.spec
+    (λ c κs. search needs)
+    (λ c κs. search needs)
+    (λ c k slots items. simp (← (c .before .advance .ensures), c .desk-with .ensures k)))

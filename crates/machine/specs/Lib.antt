@@ -1,0 +1,4 @@
+pub mod Act
+pub mod Note
+pub mod Desk
+pub mod View

@@ -1,0 +1,2 @@
+// The record test.
+ghost use mathlib.Core.Path.{_≡_};

@@ -1,0 +1,16 @@
+use borrow.Author.Needs.{needs}
+use Rattle.queue.proofs.closing.answer_of.Statement.{statement}
+use Rattle.queue.proofs.closing.answer_of.Tie as tie
+
+pub answer-of-spec : {M : Type 1} → statement M
+answer-of-spec =
+    tie.close
+    (tie.spec
+    (λ c. search needs)
+    (λ c. search needs)
+    (λ c. search needs)
+    (λ c. search needs)
+    (λ c. simp (c .before .ending .given .1))
+    (λ c. simp (c .before .ending2 .given .1))
+    (λ c. simp (c .before .ending3 .given .1))
+    (λ c. search needs))

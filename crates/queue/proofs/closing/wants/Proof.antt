@@ -1,0 +1,19 @@
+use borrow.Author.Needs.{needs}
+use Rattle.queue.proofs.closing.wants.Statement.{statement}
+use Rattle.queue.proofs.closing.wants.Tie as tie
+
+pub wants-spec : {M : Type 1} → statement M
+wants-spec =
+    tie.close
+    (tie.spec
+    (λ c. search needs)
+    (λ c κs. search needs)
+    (λ c. search needs)
+    (λ c κs. search needs)
+    (λ c. search needs)
+    (λ c κs. search needs)
+    (λ c κs. search needs)
+    (λ c κs. search needs)
+    (λ c. simp (c .before .before .place .given .1, c .theirs .ensures))
+    (λ c. simp (c .before .enum-told .given .1, c .theirs2 .ensures))
+    (λ c. simp (c .before .before .before .before .place2 .given .1, ← (c .before .before .unpack .ensures .high-is), ← (c .before .before .unpack .ensures .low-is), ← (c .before .pack .ensures), c .theirs3 .ensures)))

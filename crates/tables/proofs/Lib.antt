@@ -1,0 +1,17 @@
+pub mod Runs
+pub mod Bench
+pub mod Bools
+pub mod Bases
+pub mod Access
+pub mod Left
+pub mod Places
+pub mod Marks
+pub mod Starts
+pub mod Sound
+pub mod Refused
+pub mod After
+pub mod Steps
+pub mod Alone
+pub mod Effects
+pub mod Opening
+pub mod Updates

@@ -1,0 +1,109 @@
+-- What opening gives: each queue opened as it was asked, every party idle; not refused, a sound record.
+use Prim.Native.Nat.{ℕ, zero, suc, _-_, _^_, _≤_, _<_}
+use mathlib.Core.Path.{_≡_, refl, sym, ap, subst, _∙_}
+use mathlib.Core.Bool.{true, false}
+use mathlib.Core.List.{List, [], _∷_}
+use mathlib.Core.Logic.{⊎-elim}
+use native.Mathlib.Omega.{arith}
+use native.Mathlib.Nat.{eq-or-lt-of-le, le-of-suc-le-suc}
+use borrow.Author.Tests.{ltb-false}
+use lib.Dec.{ltb}
+use lib.ListN.{length, getD, length-set}
+use lib.Seq.{getD-set-same, getD-set-other}
+use Rattle.words.specs.Word.{powBelow, capacityOf}
+use Rattle.words.proofs.Doubling.{capacity-power}
+use Rattle.tables.specs.Rule.{Kind, lifo, fifo}
+use Rattle.tables.specs.Machine.{Queue, Party, Machine, idleParty, zeroQueue, queueAt}
+use Rattle.tables.specs.Step.{kindAt, openQueue, openTo, overTo, closedQueues, idleParties, tables, Opened, openQueues, opening, placeAt, sound}
+use Rattle.tables.proofs.Bools.{neither}
+use Rattle.tables.proofs.Sound.{Sound, Placed, facts-sound}
+use Rattle.tables.proofs.Refused.{CanOpen, open-needs, opening-if}
+
+pub closed-length : (n : ℕ) (ks : List Kind) → length (closedQueues n ks) ≡ n
+unfolding closedQueues
+closed-length zero ks = refl
+closed-length (suc n) [] = ap suc (closed-length n [])
+closed-length (suc n) (k ∷ ks) = ap suc (closed-length n ks)
+
+pub closed-at : (n : ℕ) (ks : List Kind) (q : ℕ) → q < n → getD (closedQueues n ks) q (zeroQueue lifo) ≡ zeroQueue (getD ks q lifo)
+unfolding closedQueues
+closed-at zero ks q h = absurd (omega arith)
+closed-at (suc n) [] zero h = refl
+closed-at (suc n) [] (suc q) h = closed-at n [] q (omega arith)
+closed-at (suc n) (k ∷ ks) zero h = refl
+closed-at (suc n) (k ∷ ks) (suc q) h = closed-at n ks q (omega arith)
+
+pub idle-at : (n p : ℕ) → getD (idleParties n) p idleParty ≡ idleParty
+unfolding idleParties
+idle-at zero p = refl
+idle-at (suc n) zero = refl
+idle-at (suc n) (suc p) = idle-at n p
+
+pub idle-length : (n : ℕ) → length (idleParties n) ≡ n
+unfolding idleParties
+idle-length zero = refl
+idle-length (suc n) = ap suc (idle-length n)
+
+pub open-capacity : (w : ℕ) (k : Kind) (r p : ℕ) → openQueue w k r p .capacity ≡ capacityOf w r
+open-capacity w lifo r p = refl
+open-capacity w fifo r p = refl
+
+pub open-kind : (w : ℕ) (k : Kind) (r p : ℕ) → openQueue w k r p .kind ≡ k
+open-kind w lifo r p = refl
+open-kind w fifo r p = refl
+
+module _ (w : ℕ) (ks : List Kind) (rs ps : List ℕ) where
+  pub open-length : (n : ℕ) (l : List Queue) → length (openTo w ks rs ps n l) ≡ length l
+  unfolding openTo
+  open-length zero l = refl
+  open-length (suc n) l = length-set (openTo w ks rs ps n l) n _ ∙ open-length n l
+
+  pub open-at : (n : ℕ) (l : List Queue) (q : ℕ) → q < n → n ≤ length l
+      → getD (openTo w ks rs ps n l) q (zeroQueue lifo) ≡ openQueue w (getD ks q lifo) (getD rs q 0) (getD ps q 0)
+  unfolding openTo
+  open-at zero l q h k = absurd (omega arith)
+  open-at (suc n) l q h k =
+      ⊎-elim
+      (λ e. rw e
+      (getD-set-same (openTo w ks rs ps n l) n (openQueue w (getD ks n lifo) (getD rs n 0) (getD ps n 0)) (zeroQueue lifo)
+      (rw (open-length n l) k)))
+      (λ i. getD-set-other (openTo w ks rs ps n l) n q _ (zeroQueue lifo) (omega arith) ∙ open-at n l q i (omega arith))
+      (eq-or-lt-of-le (le-of-suc-le-suc h))
+
+  -- those past the parties stay closed
+  pub open-past : (n : ℕ) (l : List Queue) (q : ℕ) → n ≤ q → getD (openTo w ks rs ps n l) q (zeroQueue lifo) ≡ getD l q (zeroQueue lifo)
+  unfolding openTo
+  open-past zero l q h = refl
+  open-past (suc n) l q h = getD-set-other (openTo w ks rs ps n l) n q _ (zeroQueue lifo) (omega arith) ∙ open-past n l q (omega arith)
+
+  pub requests-small : (n : ℕ) → overTo w rs n ≡ false → (q : ℕ) → q < n → getD rs q 0 ≤ 2 ^ (w - 1)
+  unfolding overTo
+  requests-small zero e q h = absurd (omega arith)
+  requests-small (suc n) e q h =
+      let b = neither (overTo w rs n) (ltb (2 ^ (w - 1)) (getD rs n 0)) e in
+      ⊎-elim (λ i. rw i (ltb-false _ _ (b .1))) (λ i. requests-small n (b .0) q i) (eq-or-lt-of-le (le-of-suc-le-suc h))
+
+module _ (w most : ℕ) (ks : List Kind) (n : ℕ) (rs ps : List ℕ) (lent : ℕ) (c : CanOpen w most ks n rs ps lent) where
+  abbrev machine : Machine
+  machine = tables most n (openQueues w most ks n rs ps)
+
+  pub opened-queue : (q : ℕ) → q < n → queueAt machine q ≡ openQueue w (getD ks q lifo) (getD rs q 0) (getD ps q 0)
+  opened-queue q h = open-at w ks rs ps n (closedQueues most ks) q h (rw (closed-length most ks) (c .few))
+
+  pub opened-power : 0 < w → (q : ℕ) → q < n → powBelow w (queueAt machine q .capacity) ≡ true
+  opened-power p q h =
+      rw (opened-queue q h, open-capacity w (getD ks q lifo) (getD rs q 0) (getD ps q 0))
+      (capacity-power w (requests-small w ks rs ps n (c .requests) q h) p)
+
+  pub opened-placed : (q : ℕ) → q < n → Placed (kindAt machine) n q (placeAt machine q)
+  opened-placed q h =
+      subst (λ (p : Party). Placed (kindAt machine) n q (p .place)) (sym (idle-at most q)) (record { source = h; kind = refl })
+
+  pub opened-sound : 0 < w → Sound w most machine lent
+  opened-sound p = record { some = c .some; few = c .few; power = opened-power p; placed = opened-placed; fits = c .fits }
+
+pub opening-sound : (w most : ℕ) (ks : List Kind) (n : ℕ) (rs ps : List ℕ) (lent : ℕ) → 0 < w
+    → opening w most ks n rs ps lent .refusal ≡ 0 → sound w most (opening w most ks n rs ps lent .machine) lent ≡ true
+opening-sound w most ks n rs ps lent p =
+    opening-if w most ks n rs ps lent (λ (o : Opened). o .refusal ≡ 0 → sound w most (o .machine) lent ≡ true)
+    (λ e h. facts-sound w most _ lent (opened-sound w most ks n rs ps lent (open-needs w most ks n rs ps lent e) p)) (λ e h. absurd (e h))
