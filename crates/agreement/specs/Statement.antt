@@ -168,5 +168,5 @@ pub record Agrees (w most : ℕ) (r : Run) : Type 0 where
     (p : ℕ) (k : Mark) → Premise w (r .machine) (r .notes) p
     → Cause w (r .machine) p k (replayed (r .machine) (r .record′)) (stepped w most r p k .notes) (step w most (r .machine) (r .items) p k .answer)
 
-pub Demand3 : ℕ → ℕ → Type 0
+unfoldable pub Demand3 : ℕ → ℕ → Type 0
 Demand3 w most = (r : Run) (s : List Line) → Fresh w most r → Keeps w most r s → Agrees w most (runOf w most r s)

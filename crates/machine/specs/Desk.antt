@@ -1,21 +1,23 @@
 -- A step as the code takes it: one party, its own queue, its source's queue and the items. proofs/ shows that it is the machine's.
-use Prim.Native.Nat.{ℕ, zero, suc, _+_, _≤_}
+use Prim.Native.Nat.{ℕ, zero, suc, _+_, _≤_, _<_, _^_}
 use mathlib.Core.Bool.{Bool, true, false, not}
 use mathlib.Core.List.{List, []}
 use lib.Dec.{ltb, eqb}
 use Rattle.words.specs.Word.{pick, orb, Pow}
 use Rattle.tables.specs.Rule.{Mark, plain}
 use Rattle.tables.specs.Call.{Call}
+use Rattle.tables.specs.Place.{Place}
 use Rattle.tables.specs.Machine.{Queue, Drain, Party, stretch, restretched}
 use Rattle.tables.specs.Access.{Access, Accessed, perform}
 use Rattle.tables.specs.Answer as A
 use Rattle.tables.specs.Answer.{Answer, isPending}
-use Rattle.tables.specs.Effect.{Deed, Effect}
+use Rattle.tables.specs.Effect.{Deed, Effect, drops}
 use Rattle.tables.specs.Row.{Sight, Next, Row, Whose, mine, theirs}
 use Rattle.tables.specs.Tables.{rowOf, isIdle, wishOf, wishes, start, callSource}
 use Rattle.tables.specs.Step.{effectOf, isWeak, noted, markRefusal}
 use Rattle.machine.specs.Act as Ac
 use Rattle.machine.specs.Act.{Act, Effects, threeEffects}
+use Rattle.machine.specs.Note.{note}
 
 -- Where the source is the own queue, its words are `own`.
 pub record Desk : Type 0 where
@@ -135,17 +137,36 @@ deskRuns w l who f (suc k) r =
 abbrev pub ranNone : Desk → List ℕ → Ran
 ranNone d xs = record { desk = d; items = xs; answer = A.pending; effects = []; steps = 0 }
 
+-- the same with its effects in three fields
+pub record Lone : Type 0 where
+  pub desk : Desk
+  pub items : List ℕ
+  pub answer : Answer
+  pub effects : Effects
+  pub steps : ℕ
+
+abbrev pub loneOn : (who f : ℕ) → Lone → Did → Lone
+loneOn who f r o = record {
+    desk = o .desk;
+    items = o .items;
+    answer = o .answer;
+    effects = note (r .effects) (deskEffect who f o);
+    steps = r .steps + 1
+  }
+
+abbrev pub loneOf : Ran → Lone
+loneOf r = record { desk = r .desk; items = r .items; answer = r .answer; effects = threeEffects (r .effects); steps = r .steps }
+
 -- ---- refusals, where the record test's result is known
 
-abbrev pub beginCode : Bool → (parties who : ℕ) → Desk → Call → ℕ
-beginCode ok n who d c =
-    pick ok (pick (ltb who n) (pick (isIdle (d .party .place)) (pick (ltb (callSource who c) n) 0 5) 3) 2) 1
+abbrev pub beginCode : Bool → (parties who : ℕ) → Place → Call → ℕ
+beginCode ok n who p c = pick ok (pick (ltb who n) (pick (isIdle p) (pick (ltb (callSource who c) n) 0 5) 3) 2) 1
 
-abbrev pub stepCode : ℕ → Bool → (parties who : ℕ) → Desk → Mark → ℕ
-stepCode w ok n who d k = pick ok (pick (ltb who n) (markRefusal w (deskSight d k) (d .party .place)) 2) 1
+abbrev pub stepCode : ℕ → Bool → (parties who : ℕ) → Sight → Place → ℕ
+stepCode w ok n who s p = pick ok (pick (ltb who n) (markRefusal w s p) 2) 1
 
-abbrev pub aloneCode : Bool → (parties who : ℕ) → Desk → ℕ
-aloneCode ok n who d = pick ok (pick (ltb who n) (pick (isIdle (d .party .place)) 4 0) 2) 1
+abbrev pub aloneCode : Bool → (parties who : ℕ) → Place → ℕ
+aloneCode ok n who p = pick ok (pick (ltb who n) (pick (isIdle p) 4 0) 2) 1
 
 -- ---- an act on the desk
 
@@ -177,26 +198,19 @@ ofDid who f o = record {
     refusal = 0
   }
 
-abbrev pub ofRan : Ran → Turned
-ofRan r = record {
-    desk = r .desk;
-    items = r .items;
-    answer = r .answer;
-    effects = threeEffects (r .effects);
-    steps = r .steps;
-    refusal = 0
-  }
+abbrev pub ofLone : Lone → Turned
+ofLone r = record { desk = r .desk; items = r .items; answer = r .answer; effects = r .effects; steps = r .steps; refusal = 0 }
 
 abbrev pub beginTurn : Bool → (parties who : ℕ) → Desk → List ℕ → Call → Turned
-beginTurn ok n who d xs c = pick (eqb (beginCode ok n who d c) 0) (asCame (begunDesk d c) xs 0) (asCame d xs (beginCode ok n who d c))
+beginTurn ok n who d xs c = pick (eqb (beginCode ok n who (d .party .place) c) 0) (asCame (begunDesk d c) xs 0) (asCame d xs (beginCode ok n who (d .party .place) c))
 
 abbrev pub stepTurn : ℕ → Bool → (parties who f : ℕ) → Look → Desk → List ℕ → Mark → Turned
 stepTurn w ok n who f l d xs k =
-    pick (eqb (stepCode w ok n who d k) 0) (ofDid who f (deskStep w l d xs k)) (asCame d xs (stepCode w ok n who d k))
+    pick (eqb (stepCode w ok n who (deskSight d k) (d .party .place)) 0) (ofDid who f (deskStep w l d xs k)) (asCame d xs (stepCode w ok n who (deskSight d k) (d .party .place)))
 
 abbrev pub aloneTurn : ℕ → Bool → (parties who f : ℕ) → Look → Desk → List ℕ → (budget : ℕ) → Turned
 aloneTurn w ok n who f l d xs b =
-    pick (eqb (aloneCode ok n who d) 0) (ofRan (deskRuns w l who f b (ranNone d xs))) (asCame d xs (aloneCode ok n who d))
+    pick (eqb (aloneCode ok n who (d .party .place)) 0) (ofLone (loneOf (deskRuns w l who f b (ranNone d xs)))) (asCame d xs (aloneCode ok n who (d .party .place)))
 
 abbrev pub turned : ℕ → Bool → (parties who f : ℕ) → Look → Desk → List ℕ → Act → Turned
 turned w ok n who f l d xs (Ac.begins c) = beginTurn ok n who d xs c
@@ -209,3 +223,9 @@ pub record Ready (l : Look) (d : Desk) (lent : ℕ) : Type 0 where
   pub source-power : Pow (d .source .capacity)
   pub own-fits : l .own + d .own .capacity ≤ lent
   pub source-fits : l .source + d .source .capacity ≤ lent
+
+-- a count of dropped ones can grow by one
+pub record Roomy (l : Effects) : Type 0 where
+  pub first : drops (l .first .deed) + 1 < 2 ^ 64
+  pub second : drops (l .second .deed) + 1 < 2 ^ 64
+  pub third : drops (l .third .deed) + 1 < 2 ^ 64

@@ -31,11 +31,13 @@ third l e =
 abbrev pub last : Effects → Effect → Effects
 last l e = pick (joins (l .third) e) (of 3 (l .first) (l .second) (merged (l .third) e)) l
 
+abbrev pub noteSome : Effects → Effect → Effects
+noteSome l e =
+    pick (eqb (l .count) 0) (of 1 e (l .third) (l .third))
+    (pick (eqb (l .count) 1) (second l e) (pick (eqb (l .count) 2) (third l e) (last l e)))
+
 abbrev pub note : Effects → Effect → Effects
-note l e =
-    pick (isNothing (e .deed)) l
-    (pick (eqb (l .count) 0) (of 1 e (l .third) (l .third))
-    (pick (eqb (l .count) 1) (second l e) (pick (eqb (l .count) 2) (third l e) (last l e))))
+note l e = pick (isNothing (e .deed)) l (noteSome l e)
 
 -- what is dropped in all fits the count
 pub record CountFits (l : Effects) (e : Effect) : Type 0 where

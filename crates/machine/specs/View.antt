@@ -19,6 +19,7 @@ use Rattle.machine.specs.declared.Desk.{Desk}
 use Rattle.machine.specs.declared.Look.{Look}
 use Rattle.machine.specs.declared.Reached.{Reached}
 use Rattle.machine.specs.declared.Did.{Did}
+use Rattle.machine.specs.declared.Ran.{Ran}
 use Rattle.machine.specs.declared.Turned.{Turned}
 
 -- the party limit
@@ -81,6 +82,15 @@ viewDid k x xs = record {
     answer = Q.viewAnswer (x .answer);
     deed = Q.viewDeed (x .deed);
     away = x .away
+  }
+
+abbrev pub viewLone : R.Kind → Ran → List ℕ → D.Lone
+viewLone k x xs = record {
+    desk = viewDesk k (x .desk);
+    items = xs;
+    answer = Q.viewAnswer (x .answer);
+    effects = viewEffects (x .effects);
+    steps = x .steps
   }
 
 abbrev pub viewTurned : R.Kind → Turned → List ℕ → D.Turned
