@@ -5,6 +5,8 @@ use mathlib.Core.Bool.{Bool, true, false, not}
 use mathlib.Core.List.{List, []}
 use native.Mathlib.Nat.{sub-zero, sub-self}
 use native.Mathlib.Omega.{arith}
+use borrow.Author.Tests.{ltb-true, eq-eqb, ne-eqb}
+use lib.Dec.{ltb, eqb}
 use lib.ListN.{length}
 use Rattle.words.specs.Word.{pick, orb, Pow}
 use Rattle.tables.specs.Rule.{Mark, plain}
@@ -12,16 +14,18 @@ use Rattle.tables.specs.Place.{Place}
 use Rattle.tables.specs.Access.{Seen}
 use Rattle.tables.specs.Machine.{Queue, stretch}
 use Rattle.tables.specs.Answer.{isPending}
-use Rattle.tables.specs.Effect.{Effect, drops}
+use Rattle.tables.specs.Effect.{Effect, isNothing, drops}
 use Rattle.tables.specs.Row.{Sight, Next}
 use Rattle.tables.specs.Tables.{rowOf, wishOf, wishes}
-use Rattle.tables.specs.Step.{effectOf, isWeak, noted}
+use Rattle.tables.specs.Step.{effectOf, isWeak, appended, noted}
 use Rattle.tables.proofs.Access.{Kept, perform-keeps}
 use Rattle.tables.proofs.Bases.{stretch-length, restretched-length}
-use Rattle.tables.proofs.Bools.{neither, pick-yes, pick-no}
+use Rattle.tables.proofs.Bools.{neither, pick-if, pick-yes, pick-no}
+use Rattle.tables.proofs.Refused.{zero-then}
 use Rattle.tables.proofs.Effects.{effect-deed, DropsMost, most-noted, drops-one, FewAt, few-at-none, few-on}
-use Rattle.machine.specs.Act.{threeEffects}
-use Rattle.machine.specs.Desk.{Desk, Look, deskSight, queueFor, deskWith, Reach, reach, reaches, Did, deskStep, deskEffect, Ran, ranOn, ranNone, ranStops, deskRuns, Lone, loneOn, loneOf, Ready, Roomy}
+use Rattle.machine.specs.Act.{Effects, threeEffects}
+use Rattle.machine.specs.Note.{noEffects, note}
+use Rattle.machine.specs.Desk.{Desk, Look, deskSight, queueFor, deskWith, Reach, reach, reaches, Did, deskStep, deskEffect, Ran, ranOn, ranNone, ranStops, deskRuns, Lone, loneOn, loneOf, Ready, Roomy, Turned, ofDid}
 use Rattle.machine.proofs.Turns.{Within, ready-reach}
 use Rattle.machine.proofs.Noting.{note-is, roomy-of}
 
@@ -164,3 +168,45 @@ module _ {w : ℕ} {l : Look} {who f budget : ℕ} {start : Ran} {lent : ℕ} {r
 
       fewer : FewAt (rowOf w sight place .after seen .place) (noted (g .list) e)
       fewer = few-on w sight place seen e (g .few) (neither (not (isPending (r .answer))) (wishes (wishOf place)) stop .1) deed-is
+
+-- ---- what a step's effect drops, and the parts put together
+
+pub effect-drops : (w : ℕ) (l : Look) (who f : ℕ) (d : Desk) (xs : List ℕ) (k : Mark) → drops (deskEffect who f (deskStep w l d xs k) .deed) ≤ 1
+unfolding deskStep
+effect-drops w l who f d xs k =
+    rw (effect-deed who (pick (deskStep w l d xs k .away) f who) f (deskStep w l d xs k .deed))
+    (drops-one w (deskSight d k) (d .party .place) (reaches (reach w l d k) xs k .seen))
+
+pub step-drops : (w : ℕ) (l : Look) (who f : ℕ) (d : Desk) (xs : List ℕ) (k : Mark) {o : Did} {e : Effect} → o ≡ deskStep w l d xs k → e ≡ deskEffect who f o
+  → drops (e .deed) ≤ 1
+step-drops w l who f d xs k eo ee = rw (ee, eo) (effect-drops w l who f d xs k)
+
+pub lone-on-is : (who f : ℕ) (r : Lone) (s : Did) {o : Did} {e : Effect} {es : Effects} → o ≡ s → e ≡ deskEffect who f o → es ≡ note (r .effects) e
+  → _≡_ {A = Lone} (record { desk = o .desk; items = o .items; answer = o .answer; effects = es; steps = r .steps + 1 }) (loneOn who f r s)
+lone-on-is who f r s eo ee es = simp (es, ee, eo)
+
+-- ---- a code of 0
+
+pub code-clear : (ok : Bool) (n who x : ℕ) → pick ok (pick (ltb who n) x 2) 1 ≡ 0 → (ok ≡ true) × (who < n)
+code-clear ok n who x e =
+    let a = zero-then ok (pick (ltb who n) x 2) 1 (omega arith) e in
+    (a .0, ltb-true who n (zero-then (ltb who n) x 2 (omega arith) (a .1) .0))
+
+pub no-effects-roomy : Roomy noEffects
+no-effects-roomy = record { first = omega arith; second = omega arith; third = omega arith }
+
+one-noted : (e : Effect) → note noEffects e ≡ threeEffects (noted [] e)
+unfolding appended
+one-noted e = note-is [] e (pick-if (λ (l : List Effect). length l ≤ 3) (isNothing (e .deed)) (λ h. omega arith) (λ h. omega arith))
+
+pub did-is : (who f : ℕ) (s : Did) {o : Did} {e : Effect} {es : Effects} → o ≡ s → e ≡ deskEffect who f o → es ≡ note noEffects e
+  → _≡_ {A = Turned} (record { desk = o .desk; items = o .items; answer = o .answer; effects = es; steps = 0; refusal = 0 }) (ofDid who f s)
+did-is who f s {e = e} eo ee es = simp (es ∙ one-noted e, ee, eo)
+
+-- an act goes by its code
+pub act-taken : (code′ : ℕ) (a : Turned) (r : ℕ → Turned) {code : ℕ} {t : Turned} → code ≡ code′ → code ≡ 0 → t ≡ a → t ≡ pick (eqb code′ 0) a (r code′)
+act-taken code′ a r e z h = h ∙ sym (pick-yes (eqb code′ 0) a (r code′) (eq-eqb code′ 0 (sym e ∙ z)))
+
+pub act-refused : (code′ : ℕ) (a : Turned) (r : ℕ → Turned) {code : ℕ} {t : Turned} → code ≡ code′ → (code ≡ 0 → ⊥) → t ≡ r code
+  → t ≡ pick (eqb code′ 0) a (r code′)
+act-refused code′ a r e z h = h ∙ ap r e ∙ sym (pick-no (eqb code′ 0) a (r code′) (ne-eqb code′ 0 (λ i. z (e ∙ i))))

@@ -1,5 +1,6 @@
 use borrow.Author.Tests.{eq-eqb, ne-eqb}
 use borrow.Author.Needs.{needs}
+use Rattle.queue.specs.View.{viewKind}
 use Rattle.machine.proofs.turn.begin_turn.Statement.{statement}
 use Rattle.machine.proofs.turn.begin_turn.Tie as tie
 
@@ -11,5 +12,5 @@ begin-turn-spec =
     (λ c κs. search needs)
     (λ c κs. search needs)
     (λ c κs. search needs)
-    (λ c. simp (c .before .before .before .before .before .before .before .party .given .1, ← (c .before .before .before .before .before .before .begin-code .ensures), eq-eqb _ _ (c .before .before .before .before .before .if1 .taken), c .before .before .before .before .drain .given .1, c .before .before .before .own .given .1, c .before .before .source .given .1, ← (c .before .start .ensures), c .as-came .ensures))
-    (λ c. simp (c .before .before .before .party .given .1, ← (c .before .before .begin-code .ensures), ne-eqb _ _ (c .before .if1 .left), c .as-came2 .ensures)))
+    (λ c xs. simp (← (c .before .before .before .before .before .before .begin-code .ensures), eq-eqb _ _ (c .before .before .before .before .before .if1 .taken), ← (c .before .start .ensures), c .as-came .ensures (viewKind (c .before .before .before .before .before .before .before .before .args .kind)) xs))
+    (λ c xs. simp (← (c .before .before .begin-code .ensures), ne-eqb _ _ (c .before .if1 .left), c .as-came2 .ensures (viewKind (c .before .before .before .before .args .kind)) xs)))

@@ -8,4 +8,4 @@ step-code-spec = tie.close (tie.spec
     (λ c κs. search needs)
     (λ c. simp (c .before .before .if1 .taken, lt-ltb _ _ (c .before .if2 .taken), c .mark-code .ensures))
     (λ c. simp (c .before .if1 .taken, le-ltb _ _ (c .if2 .left)))
-    (λ c. search needs))
+    (λ c. simp (c .if1 .left)))
