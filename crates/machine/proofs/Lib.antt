@@ -1,3 +1,9 @@
 pub mod Turns
 pub mod Noting
 pub mod Running
+pub mod Desks
+pub mod Acts
+pub mod Arrays
+pub mod Surveys
+pub mod Held
+pub mod Applied

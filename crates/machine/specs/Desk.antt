@@ -2,21 +2,22 @@
 use Prim.Native.Nat.{ℕ, zero, suc, _+_, _≤_, _<_, _^_}
 use mathlib.Core.Bool.{Bool, true, false, not}
 use mathlib.Core.List.{List, []}
-use lib.Dec.{ltb, eqb}
-use Rattle.words.specs.Word.{pick, orb, Pow}
-use Rattle.tables.specs.Rule.{Mark, plain}
+use lib.Dec.{ltb, leb, eqb}
+use lib.ListN.{set}
+use Rattle.words.specs.Word.{pick, orb, Pow, powBelow}
+use Rattle.tables.specs.Rule.{Kind, Mark, plain}
 use Rattle.tables.specs.Call.{Call}
 use Rattle.tables.specs.Place.{Place}
-use Rattle.tables.specs.Machine.{Queue, Drain, Party, stretch, restretched}
+use Rattle.tables.specs.Machine.{Queue, Party, Machine, stretch, restretched}
 use Rattle.tables.specs.Access.{Access, Accessed, perform}
 use Rattle.tables.specs.Answer as A
 use Rattle.tables.specs.Answer.{Answer, isPending}
 use Rattle.tables.specs.Effect.{Deed, Effect, drops}
 use Rattle.tables.specs.Row.{Sight, Next, Row, Whose, mine, theirs}
-use Rattle.tables.specs.Tables.{rowOf, isIdle, wishOf, wishes, start, callSource}
-use Rattle.tables.specs.Step.{effectOf, isWeak, noted, markRefusal}
+use Rattle.tables.specs.Tables.{rowOf, isIdle, sourceOf, hasPlace, wishOf, wishes, start, callSource}
+use Rattle.tables.specs.Step.{andb, effectOf, isWeak, noted, markRefusal}
 use Rattle.machine.specs.Act as Ac
-use Rattle.machine.specs.Act.{Act, Effects, threeEffects}
+use Rattle.machine.specs.Act.{Act, Acted, Effects, threeEffects}
 use Rattle.machine.specs.Note.{note}
 
 -- Where the source is the own queue, its words are `own`.
@@ -229,3 +230,45 @@ pub record Roomy (l : Effects) : Type 0 where
   pub first : drops (l .first .deed) + 1 < 2 ^ 64
   pub second : drops (l .second .deed) + 1 < 2 ^ 64
   pub third : drops (l .third .deed) + 1 < 2 ^ 64
+
+-- ---- the desk put back into the record
+
+abbrev pub putBack : Machine → (who f : ℕ) → Desk → Machine
+putBack m who f d = record {
+    parties = m .parties;
+    party = set (m .party) who (d .party);
+    queue = set (set (m .queue) f (d .source)) who (d .own)
+  }
+
+abbrev pub putActed : Machine → (x y : ℕ) → Turned → Acted
+putActed m x y t = record {
+    machine = putBack m x y (t .desk);
+    items = t .items;
+    answer = t .answer;
+    effects = t .effects;
+    steps = t .steps;
+    refusal = t .refusal
+  }
+
+-- ---- the record test, party by party
+
+pub record Survey : Type 0 where
+  pub sound : Bool
+  pub total : ℕ
+  pub own : ℕ
+  pub source : ℕ
+
+-- one party and its queue, where all queues are of one kind
+abbrev pub fine : ℕ → Kind → (parties i : ℕ) → Place → (capacity : ℕ) → Bool
+fine w k n i p c = andb (powBelow w c) (andb (ltb (sourceOf i p) n) (hasPlace k k p))
+
+abbrev pub surveyed : ℕ → Kind → (parties who f i : ℕ) → Survey → Party → Queue → Survey
+surveyed w k n who f i s p q = record {
+    sound = andb (s .sound) (fine w k n i (p .place) (q .capacity));
+    total = s .total + q .capacity;
+    own = pick (eqb i who) (s .total) (s .own);
+    source = pick (eqb i f) (s .total) (s .source)
+  }
+
+abbrev pub passed : (most parties lent : ℕ) → Survey → Bool
+passed most n lent s = andb (ltb 0 n) (andb (leb n most) (andb (s .sound) (leb (s .total) lent)))

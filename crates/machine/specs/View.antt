@@ -17,6 +17,7 @@ use Rattle.machine.specs.declared.Act.the-variants as Act·v
 use Rattle.machine.specs.declared.Acted.{Acted}
 use Rattle.machine.specs.declared.Desk.{Desk}
 use Rattle.machine.specs.declared.Look.{Look}
+use Rattle.machine.specs.declared.Survey.{Survey}
 use Rattle.machine.specs.declared.Reached.{Reached}
 use Rattle.machine.specs.declared.Did.{Did}
 use Rattle.machine.specs.declared.Ran.{Ran}
@@ -102,3 +103,6 @@ viewTurned k x xs = record {
     steps = x .steps;
     refusal = x .refusal
   }
+
+abbrev pub viewSurvey : Survey → D.Survey
+viewSurvey x = record { sound = x .sound; total = x .total; own = x .own; source = x .source }

@@ -1,7 +1,11 @@
 // The machine: a table of party records and queue words, handed in and back. Open it, then begin, step and run alone.
 ghost use mathlib.Core.Path.{_≡_};
 ghost use Rattle.words.specs.Edition.{width};
+ghost use mathlib.Core.List.{List};
+ghost use Prim.Native.Nat.{ℕ, _<_};
+ghost use Rattle.queue.specs.View as Q;
 ghost use Rattle.machine.specs.Act as Ac;
+ghost use Rattle.machine.specs.Desk as D;
 ghost use Rattle.machine.specs.View as Vw;
 ghost use Rattle.machine.specs.View.{most};
 
@@ -68,6 +72,14 @@ pub struct Look {
     pub source: usize,
 }
 
+// What the record test has found so far, and where the two queues' stretches start.
+pub struct Survey {
+    pub sound: bool,
+    pub total: usize,
+    pub own: usize,
+    pub source: usize,
+}
+
 pub struct Reached {
     pub sight: Sight,
     pub access: Access,
@@ -96,4 +108,55 @@ pub struct Turned {
     pub effects: Effects,
     pub steps: u64,
     pub refusal: u8,
+}
+
+// Begin, step or run alone, on any record, any items and any party number. The record goes in once and comes back once: what is
+// handed on is one party and two queues. A place is looked up by its number's remainder, which is a place of the table whatever
+// the number; a party or source that is not there is refused.
+pub fn apply(m: Machine, items: &mut [u64], who: u64, act: Act) -> Acted
+    ensures {
+        λ r. ⌜ Vw.viewActed r (now (items .exit)) ≡ Ac.acted width most (Vw.viewMachine m) (now (items .entry)) who (Vw.viewAct act) ⌝
+    }
+{
+    let kind = m.kind;
+    let parties = m.parties;
+    let x = (who % 16) as usize;
+    let party = m.party[x];
+    let place = party.place;
+    let from = queue::places::source_of(who, place);
+    let y = (from % 16) as usize;
+    let own = m.queue[x];
+    let source = m.queue[y];
+    let bound = test::bound(parties);
+    let mut s = test::nothing();
+    let mut i: usize = 0;
+    while i < bound {
+        let p = m.party[i];
+        let q = m.queue[i];
+        s = test::surveyed(s, kind, parties, i as u64, p, q, who, from);
+        i += 1;
+    }
+    let ok = test::passed(s, parties, items.len());
+    let look = Look { who: who, from: from, own: s.own, source: s.source };
+    let t = turn::turned(kind, ok, parties, look, Desk { party: party, own: own, source: source }, items, act);
+    put_back(m, x, y, t)
+}
+
+fn put_back(m: Machine, x: usize, y: usize, t: Turned) -> Acted
+    requires { ⌜ (x < 16) × (y < 16) ⌝ }
+    ensures {
+        λ r. ⌜ ((xs : List ℕ) → Vw.viewActed r xs ≡ D.putActed (Vw.viewMachine m) x y (Vw.viewTurned (Q.viewKind (m .kind)) t xs)) ⌝
+    }
+{
+    let mut out = m;
+    let desk = t.desk;
+    let party = desk.party;
+    let own = desk.own;
+    let source = desk.source;
+    out.party[x] = party;
+    out.queue[y] = source;
+    out.queue[x] = own;
+    let answer = t.answer;
+    let effects = t.effects;
+    Acted { machine: out, answer: answer, effects: effects, steps: t.steps, refusal: t.refusal }
 }

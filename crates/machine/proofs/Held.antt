@@ -1,0 +1,20 @@
+-- What whoever holds a machine knows of it: its tables have as many places as their type says.
+use Prim.Native.Nat.{ℕ}
+use mathlib.Core.Path.{_≡_, sym, _∙_}
+use mathlib.Core.List.{[], _∷_, map}
+use lib.ListN.{length, length-map}
+use denote.Laws.{Is}
+use denote.Struct.Laws as LL
+use Rattle.machine.specs.declared.Machine.{Machine}
+use Rattle.machine.specs.View.{most}
+use Rattle.machine.proofs.Machine as T
+use Rattle.machine.proofs.Machine.Laws as T′
+use Rattle.machine.proofs.Party as P
+use Rattle.queue.proofs.Queue as Q
+
+module _ (m : Machine) (is : Is T.the-row m (LL.val T.the-type T′.the-laws m ∷ [])) where
+  pub parties-many : length (m .party) ≡ most
+  parties-many = sym (length-map (m .party) (P.the-type .to)) ∙ LL.owed T.the-type T′.the-laws m _ is .1 .1 .0 .1 .0 .1
+
+  pub queues-many : length (m .queue) ≡ most
+  queues-many = sym (length-map (m .queue) (Q.the-type .to)) ∙ LL.owed T.the-type T′.the-laws m _ is .1 .1 .1 .0 .1 .0 .1
