@@ -7,3 +7,4 @@ pub mod Arrays
 pub mod Surveys
 pub mod Held
 pub mod Applied
+pub mod Opens

@@ -1,10 +1,11 @@
 -- The declared types of the machine read as the tables' own.
-use Prim.Native.Nat.{ℕ}
+use Prim.Native.Nat.{ℕ, zero, suc}
 use lib.Dec.{eqb}
-use mathlib.Core.List.{List, map}
+use mathlib.Core.List.{List, [], _∷_, map}
 use Rattle.tables.specs.Rule as R
 use Rattle.tables.specs.Effect as E
 use Rattle.tables.specs.Machine as M
+use Rattle.tables.specs.Step as St
 use Rattle.queue.specs.View as Q
 use Rattle.machine.specs.Desk as D
 use Rattle.machine.specs.Act as Ac
@@ -15,6 +16,7 @@ use Rattle.machine.specs.declared.Effects.{Effects}
 use Rattle.machine.specs.declared.Act.{Act}
 use Rattle.machine.specs.declared.Act.the-variants as Act·v
 use Rattle.machine.specs.declared.Acted.{Acted}
+use Rattle.machine.specs.declared.Opened.{Opened}
 use Rattle.machine.specs.declared.Desk.{Desk}
 use Rattle.machine.specs.declared.Look.{Look}
 use Rattle.machine.specs.declared.Survey.{Survey}
@@ -37,6 +39,14 @@ viewMachine x = record {
     party = map viewParty (x .party);
     queue = map (Q.viewQueue (Q.viewKind (x .kind))) (x .queue)
   }
+
+-- the kind asked, for each queue
+unfoldable pub everyKind : ℕ → R.Kind → List R.Kind
+everyKind zero k = []
+everyKind (suc n) k = k ∷ everyKind n k
+
+abbrev pub viewOpened : Opened → St.Opened
+viewOpened x = record { machine = viewMachine (x .machine); refusal = x .refusal }
 
 abbrev pub viewEffect : Effect → E.Effect
 viewEffect x = record { party = x .party; queue = x .queue; deed = Q.viewDeed (x .deed) }

@@ -14,6 +14,7 @@ use queue::{Access, Answer, Call, Deed, Drain, Kind, Mark, Place, Queue, Sight};
 pub mod deeds; // what a step has done, and the few effects of a run alone
 pub mod turn; // one party with its own queue and its source's
 pub mod test; // the record test
+pub mod open; // a fresh machine
 
 pub const MOST: usize = 16;
 
@@ -54,6 +55,11 @@ pub struct Acted {
     pub answer: Answer,
     pub effects: Effects,
     pub steps: u64,
+    pub refusal: u8,
+}
+
+pub struct Opened {
+    pub machine: Machine,
     pub refusal: u8,
 }
 
