@@ -3,6 +3,7 @@ ghost use mathlib.Core.Path.{_≡_};
 ghost use Rattle.words.specs.Edition.{width};
 ghost use mathlib.Core.List.{List};
 ghost use Prim.Native.Nat.{ℕ, _<_};
+ghost use Rattle.tables.specs.Step as St;
 ghost use Rattle.queue.specs.View as Q;
 ghost use Rattle.machine.specs.Act as Ac;
 ghost use Rattle.machine.specs.Desk as D;
@@ -165,4 +166,34 @@ fn put_back(m: Machine, x: usize, y: usize, t: Turned) -> Acted
     let answer = t.answer;
     let effects = t.effects;
     Acted { machine: out, answer: answer, effects: effects, steps: t.steps, refusal: t.refusal }
+}
+
+// Begin a call: it touches no word.
+pub fn begin(m: Machine, items: &mut [u64], who: u64, call: Call) -> Acted
+    ensures {
+        λ r. ⌜ Vw.viewActed r (now (items .exit))
+            ≡ Ac.ofOutcome (St.begin width most (Vw.viewMachine m) (now (items .entry)) who (Q.viewCall call)) ⌝
+    }
+{
+    apply(m, items, who, Act::Begin(call))
+}
+
+// One step of a call, with its mark.
+pub fn step(m: Machine, items: &mut [u64], who: u64, mark: Mark) -> Acted
+    ensures {
+        λ r. ⌜ Vw.viewActed r (now (items .exit))
+            ≡ Ac.ofOutcome (St.step width most (Vw.viewMachine m) (now (items .entry)) who (Q.viewMark mark)) ⌝
+    }
+{
+    apply(m, items, who, Act::Step(mark))
+}
+
+// Run alone: plain steps of one party, up to a budget.
+pub fn run_alone(m: Machine, items: &mut [u64], who: u64, budget: u64) -> Acted
+    ensures {
+        λ r. ⌜ Vw.viewActed r (now (items .exit))
+            ≡ Ac.ofAlone (St.alone width most (Vw.viewMachine m) (now (items .entry)) who budget) ⌝
+    }
+{
+    apply(m, items, who, Act::Alone(budget))
 }
