@@ -1,4 +1,4 @@
--- Demand 3's claim 5: running alone is that many single steps: machine, items and answer, and effects with dropped ones in a row as one.
+-- Claim 5, but for the lists: running alone is that many single steps: machine, items, answer, effects with dropped ones in a row as one.
 use Prim.Native.Nat.{ℕ, zero, suc, _+_}
 use mathlib.Core.Path.{_≡_, refl, ap, subst, _∙_}
 use mathlib.Core.List.{List, [], _∷_}
@@ -13,34 +13,12 @@ use Rattle.tables.specs.Lists.{Entry, said}
 use Rattle.tables.proofs.Bools.{pick-if, pick-yes}
 use Rattle.tables.proofs.Refused.{step-refusal, alone-needs, alone-if}
 use Rattle.tables.proofs.Alone.{Going, turn-pending, turn-can, turn-is-step, turn-going, going-still}
-use Rattle.agreement.specs.Statement.{Run, alones, didEntry, saidEntry, recorded, stepped, repeated, line}
-
--- the outcomes of that many plain steps, one after the other
-unfoldable pub singles : (w most : ℕ) → ℕ → Run → ℕ → List Outcome
-singles w most zero r p = []
-singles w most (suc n) r p = step w most (r .machine) (r .items) p plain ∷ singles w most n (stepped w most r p plain) p
-
--- the last one's answer; their effects, dropped ones in a row as one
-unfoldable pub lastAnswer : Answer → List Outcome → Answer
-lastAnswer a [] = a
-lastAnswer a (o ∷ l) = lastAnswer (o .answer) l
-
-unfoldable pub gatheredOn : List Effect → List Outcome → List Effect
-gatheredOn es [] = es
-gatheredOn es (o ∷ l) = gatheredOn (noted es (o .effect)) l
-
-abbrev pub gathered : List Outcome → List Effect
-gathered l = gatheredOn [] l
+use Rattle.agreement.specs.Statement.{Run, didEntry, saidEntry, recorded, stepped, repeated, singles, NoneRefused, lastAnswer, gathered}
 
 -- their effects put on a record
 unfoldable pub singlesOn : List Entry → List Outcome → List Entry
 singlesOn l [] = l
 singlesOn l (o ∷ os) = singlesOn (didEntry (o .effect) l) os
-
--- none of them refused
-unfoldable pub NoneRefused : List Outcome → Type 0
-NoneRefused [] = Unit {0}
-NoneRefused (o ∷ l) = (o .refusal ≡ 0) × NoneRefused l
 
 -- running alone, from a run on
 abbrev pub alongside : Run → Answer → List Effect → (steps : ℕ) → Alone
@@ -53,14 +31,14 @@ pub record Follows (w most : ℕ) (r : Run) (p : ℕ) (l : List Entry) (a : Answ
   pub machine : repeated w most turns r p .machine ≡ b .machine
   pub items : repeated w most turns r p .items ≡ b .items
   pub answer : b .answer ≡ lastAnswer a (singles w most turns r p)
-  pub effects : b .effects ≡ gatheredOn es (singles w most turns r p)
+  pub effects : b .effects ≡ gathered es (singles w most turns r p)
   pub taken : NoneRefused (singles w most turns r p)
   pub record-is : repeated w most turns r p .record′ ≡ saidEntry p (b .answer) (singlesOn l (singles w most turns r p))
 
 module _ (w most p : ℕ) where
   none-yet : (r : Run) (l : List Entry) (a : Answer) (es : List Effect) (n : ℕ) → r .record′ ≡ saidEntry p a l
       → Follows w most r p l a es n (alongside r a es n)
-  unfolding repeated singles lastAnswer gatheredOn singlesOn NoneRefused
+  unfolding repeated singles lastAnswer gathered singlesOn NoneRefused
   none-yet r l a es n e =
       record { turns = 0; steps = omega arith; machine = refl; items = refl; answer = refl; effects = refl; taken = tt; record-is = e }
 
@@ -69,7 +47,7 @@ module _ (w most p : ℕ) where
       → Follows w most (stepped w most r p plain) p (didEntry (step w most (r .machine) (r .items) p plain .effect) l)
       (step w most (r .machine) (r .items) p plain .answer) (noted es (step w most (r .machine) (r .items) p plain .effect)) (n + 1) b
       → Follows w most r p l a es n b
-  unfolding repeated singles lastAnswer gatheredOn singlesOn NoneRefused
+  unfolding repeated singles lastAnswer gathered singlesOn NoneRefused
   one-more r l a es n b z f = record {
     turns = suc (f .turns);
     steps = omega (arith, f .steps);
@@ -105,7 +83,7 @@ pub record AsSingles (w most : ℕ) (r : Run) (p : ℕ) (b : Alone) : Type 0 whe
   pub machine : repeated w most (b .steps) r p .machine ≡ b .machine
   pub items : repeated w most (b .steps) r p .items ≡ b .items
   pub answer : b .answer ≡ lastAnswer A.pending (singles w most (b .steps) r p)
-  pub effects : b .effects ≡ gathered (singles w most (b .steps) r p)
+  pub effects : b .effects ≡ gathered [] (singles w most (b .steps) r p)
   pub taken : NoneRefused (singles w most (b .steps) r p)
   pub record-is : repeated w most (b .steps) r p .record′ ≡ saidEntry p (b .answer) (singlesOn (r .record′) (singles w most (b .steps) r p))
 
@@ -122,7 +100,7 @@ as-singles w most r p b f =
     }
 
 none-taken : (w most : ℕ) (r : Run) (p k : ℕ) → AsSingles w most r p (still (r .machine) (r .items) k)
-unfolding repeated singles lastAnswer gatheredOn singlesOn NoneRefused
+unfolding repeated singles lastAnswer gathered singlesOn NoneRefused
 none-taken w most r p k = record { machine = refl; items = refl; answer = refl; effects = refl; taken = tt; record-is = refl }
 
 pub alone-is-singles : (w most : ℕ) (r : Run) (p n : ℕ) → AsSingles w most r p (alone w most (r .machine) (r .items) p n)
@@ -132,9 +110,3 @@ alone-is-singles w most r p n =
     (follows w most p n r (r .record′) A.pending [] 0
     (going-still w most p (r .machine) (r .items) n (alone-needs w most (r .machine) p (length (r .items)) e)) refl))
     (λ e. none-taken w most r p _)
-
--- a schedule's line "run alone" is the alone of the definitions
-pub line-alone : (w most : ℕ) (r : Run) (p n : ℕ)
-    → (line w most r (alones p n) .machine ≡ alone w most (r .machine) (r .items) p n .machine)
-    × (line w most r (alones p n) .items ≡ alone w most (r .machine) (r .items) p n .items)
-line-alone w most r p n = let a = alone-is-singles w most r p n in (a .machine, a .items)

@@ -18,9 +18,10 @@ use Rattle.tables.specs.Tables.{isIdle, lifoSource, fifoSource, sourceOf, start
 use Rattle.tables.specs.Table.{booking, limitOf}
 use Rattle.tables.specs.Step.{withParty}
 use Rattle.tables.specs.Lists.{Lists, lists, tokens, update}
+use Rattle.tables.proofs.Updates.{update-elim, update-same, update-other, list-update}
 use Rattle.agreement.specs.Statement.{Run}
 use Rattle.agreement.proofs.Nums.{Nums, tail}
-use Rattle.agreement.proofs.Frame.{update-elim, update-same, update-other, column-s}
+use Rattle.agreement.proofs.Frame.{column-s}
 use Rattle.agreement.proofs.Facts.{OwnL, OwnK, OwnO, OwnP, OwnF, BkB, BkF, held}
 use Rattle.agreement.proofs.Steps.{bookStill, Still}
 use Rattle.agreement.proofs.OwnFill.{Calm}
@@ -28,7 +29,6 @@ use Rattle.agreement.proofs.OwnLifo.{calm-lifo}
 use Rattle.agreement.proofs.OwnFifo.{calm-fifo}
 use Rattle.agreement.proofs.Cells.{Member, Own, Bkr, Drn, Claim, MInv, plainOf}
 use Rattle.agreement.proofs.Record.{Fits}
-use Rattle.agreement.proofs.Stretch.{list-update}
 use Rattle.agreement.proofs.Replay.{plain-ext}
 use Rattle.agreement.proofs.Good.{Good}
 

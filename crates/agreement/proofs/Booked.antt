@@ -25,6 +25,7 @@ use Rattle.tables.specs.Table.{ruleOf, roomFor, limitOf, counted, booked}
 use Rattle.tables.specs.Tables.{sourceOf, goalSource}
 use Rattle.tables.specs.Lists.{party, isOpen, Lists, book, can, named, inFront}
 use Rattle.tables.specs.Causes.{ruleGaveZero}
+use Rattle.tables.proofs.Bools.{and-left}
 use Rattle.agreement.specs.Shows.{byDrain}
 use Rattle.agreement.proofs.Wrap.{plus-is, same}
 use Rattle.agreement.proofs.Ring.{tokens-zero}
@@ -33,7 +34,6 @@ use Rattle.agreement.proofs.Whole.{Whole, wordsOf, RO, RB, ro-refl, rb-
 use Rattle.agreement.proofs.Facts.{kept, OwnF, BkB, BkF, held}
 use Rattle.agreement.proofs.Steps.{handOver, Why, Still, limitAt, SrcNext}
 use Rattle.agreement.proofs.OwnFill.{sightOf}
-use Rattle.agreement.proofs.OwnDrain.{andb-both}
 
 abbrev pub goalWho : ℕ → Goal → Who
 goalWho p (G.haul e d) = call p
@@ -259,7 +259,7 @@ module _ (w p fm : ℕ) (items : List ℕ) (k : Kind) (d : Drain) (mark : Mark) 
     rh = λ r rn _ ew. absurd (rn (sym ew ∙ nob));
     who-new = λ r _ rm ew. absurd (rm (sym ew));
     claim-x = λ _ _. rw (eq-eqb p p refl, ne-eqb hd (plus w hd n) apart) refl;
-    claim-y = λ y ne c. absurd (ne (sym (eqb-true p y (andb-both (eqb p y) (not (eqb (d .at) (d .end))) c .0))));
+    claim-y = λ y ne c. absurd (ne (sym (eqb-true p y (and-left (eqb p y) (not (eqb (d .at) (d .end))) c))));
     moved-s = refl;
     still = λ z. absurd (goal-some p (G.drain r) z);
     still-n = λ _. tt;

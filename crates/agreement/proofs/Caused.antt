@@ -8,8 +8,6 @@ use native.Mathlib.Nat.{mod-eq-of-lt}
 use native.Mathlib.Omega.{arith}
 use lib.ListN.{length}
 use lib.Pow.{pow-mono}
-use lib.Dec.{eqb}
-use borrow.Author.Tests.{eqb-true}
 use Rattle.words.specs.Word.{pick}
 use Rattle.tables.specs.Rule.{Kind, Mark}
 use Rattle.tables.specs.Errand as G
@@ -20,19 +18,19 @@ use Rattle.tables.specs.Machine.{Queue, queueAt}
 use Rattle.tables.specs.Answer as A
 use Rattle.tables.specs.Answer.{Answer}
 use Rattle.tables.specs.Table.{roomFor}
-use Rattle.tables.specs.Step.{Outcome, refused, placeAt, sourceAt, stepRefusal, step, taken}
+use Rattle.tables.specs.Step.{Outcome, placeAt, sourceAt, step}
 use Rattle.tables.specs.Lists.{isOpen, Lists, Plain, update}
 use Rattle.tables.specs.Causes.{isFirstLoad, isHeadLoad, fillOf, Premise, ruleGaveZero, noRoom, Cause}
+use Rattle.tables.proofs.Refused.{step-needs, step-if}
+use Rattle.tables.proofs.Updates.{update-same}
 use Rattle.agreement.specs.Statement.{Run, replayed, afterStep, stepped}
 use Rattle.agreement.proofs.Nums.{Nums}
-use Rattle.agreement.proofs.Frame.{update-same}
 use Rattle.agreement.proofs.Facts.{OwnP}
 use Rattle.agreement.proofs.Steps.{Still, limitAt}
 use Rattle.agreement.proofs.Cells.{words, Causes}
 use Rattle.agreement.proofs.Record.{taken-is, place-is}
 use Rattle.agreement.proofs.Good.{Good, halves, still-first, a, next, after, source, y}
 use Rattle.agreement.proofs.Went.{step₁, notes₁, before-is, fill₁, was-shut}
-use Rattle.agreement.proofs.Runs.{step-ok}
 
 -- ---- a limit of 0 is a steal's, with no room
 
@@ -161,18 +159,11 @@ module _ (w : ℕ) (wide : 1 < w) {r : Run} (b : Good w r) (p : ℕ) (pn : p < r
 pub is-caused : (w most : ℕ) → 1 < w → (r : Run) → Good w r → (p : ℕ) (k : Mark) → Premise w (r .machine) (r .notes) p
     → Cause w (r .machine) p k (replayed (r .machine) (r .record′)) (stepped w most r p k .notes)
     (step w most (r .machine) (r .items) p k .answer)
-unfolding step
-is-caused w most wide r b p k prem = go (eqb (stepRefusal w most (r .machine) (length (r .items)) p k) 0) refl
-  where
-    go : (t : Bool) → eqb (stepRefusal w most (r .machine) (length (r .items)) p k) 0 ≡ t
-        → Cause w (r .machine) p k (replayed (r .machine) (r .record′))
-        (afterStep r p (pick t (taken w (r .machine) (r .items) p k)
-        (refused (r .machine) (r .items) (stepRefusal w most (r .machine) (length (r .items)) p k))) .notes)
-        (pick t (taken w (r .machine) (r .items) p k) (refused (r .machine) (r .items)
-        (stepRefusal w most (r .machine) (length (r .items)) p k)) .answer)
-    go true e =
-        let pn = step-ok w most (r .machine) (length (r .items)) p k
-        (eqb-true (stepRefusal w most (r .machine) (length (r .items)) p k) 0 e) in
-        subst (λ (o : Outcome). Cause w (r .machine) p k (replayed (r .machine) (r .record′)) (afterStep r p o .notes) (o .answer))
-        (sym (taken-is w (r .machine) (r .items) (b .fits) p pn k)) (taken-caused w wide b p pn k prem)
-    go false e = tt
+is-caused w most wide r b p k prem =
+    step-if w most (r .machine) p k (r .items)
+    (λ (o : Outcome). Cause w (r .machine) p k (replayed (r .machine) (r .record′)) (afterStep r p o .notes) (o .answer))
+    (λ e.
+    let pn : p < r .machine .parties = step-needs w most (r .machine) p k (length (r .items)) e .here in
+    subst (λ (o : Outcome). Cause w (r .machine) p k (replayed (r .machine) (r .record′)) (afterStep r p o .notes) (o .answer))
+    (sym (taken-is w (r .machine) (r .items) (b .fits) p pn k)) (taken-caused w wide b p pn k prem))
+    (λ e. tt)

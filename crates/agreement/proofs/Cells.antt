@@ -17,9 +17,10 @@ use Rattle.tables.specs.Row.{Next}
 use Rattle.tables.specs.Tables.{sourceOf}
 use Rattle.tables.specs.Lists.{party, isOpen, Lists, Plain, update, does, can, named, inFront}
 use Rattle.tables.specs.Causes.{movedBy, isFirstLoad, isHeadLoad, fillOf, ruleGaveZero}
+use Rattle.tables.proofs.Updates.{update-elim}
 use Rattle.agreement.proofs.Nums.{noone, holderOf, Nums}
 use Rattle.agreement.proofs.Whole.{Whole, wordsOf}
-use Rattle.agreement.proofs.Frame.{update-elim, Inv}
+use Rattle.agreement.proofs.Frame.{Inv}
 use Rattle.agreement.proofs.Facts.{OwnF, BkF, DrnF, held}
 use Rattle.agreement.proofs.Steps.{changed, handed, Single, handOver, Why, Still, limitAt}
 

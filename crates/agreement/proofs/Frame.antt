@@ -5,24 +5,9 @@ use mathlib.Core.Logic.{_≢_}
 use mathlib.Core.Bool.{Bool, true, false}
 use Prim.Native.Nat.{ℕ}
 use lib.Dec.{eqb}
-use borrow.Author.Tests.{eqb-true, eqb-false}
 use Rattle.words.specs.Word.{pick}
 use Rattle.tables.specs.Lists.{update}
-
-module _ {A : Type 0} (f : ℕ → A) (i : ℕ) (v : A) where
-  pub update-elim : (P : A → Type 0) (j : ℕ) → (j ≡ i → P v) → (j ≢ i → P (f j)) → P (update f i v j)
-  unfolding update
-  update-elim P j a b = go (eqb j i) refl
-    where
-      go : (t : Bool) → eqb j i ≡ t → P (pick t v (f j))
-      go true e = a (eqb-true j i e)
-      go false e = b (eqb-false j i e)
-
-  pub update-same : update f i v i ≡ v
-  update-same = update-elim (λ (x : A). x ≡ v) i (λ _. refl) (λ h. absurd (h refl))
-
-  pub update-other : (j : ℕ) → j ≢ i → update f i v j ≡ f j
-  update-other j h = update-elim (λ (x : A). x ≡ f j) j (λ e. absurd (h e)) (λ _. refl)
+use Rattle.tables.proofs.Updates.{update-elim}
 
 -- an entry's column after one entry is changed
 pub column : {A B : Type 0} (f : A → B) (t : ℕ → A) (u : ℕ → B) → ((j : ℕ) → f (t j) ≡ u j) → (i : ℕ) (v : A) (w : B) → f v ≡ w

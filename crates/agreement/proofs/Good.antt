@@ -5,7 +5,7 @@ use mathlib.Core.List.{List}
 use Prim.Native.Nat.{ℕ, suc, _+_, _-_, _%_, _^_, _<_}
 use native.Mathlib.Omega.{arith}
 use Rattle.words.specs.Word.{orb}
-use Rattle.tables.specs.Rule.{Kind, lifo, fifo, Mark}
+use Rattle.tables.specs.Rule.{Kind, lifo, Mark}
 use Rattle.tables.specs.Place as P
 use Rattle.tables.specs.Place.{Place, BookPlace}
 use Rattle.tables.specs.Machine.{Queue}
@@ -16,11 +16,12 @@ use Rattle.tables.specs.Tables.{sourceOf}
 use Rattle.tables.specs.Table.{limitOf}
 use Rattle.tables.specs.Step.{Outcome, placeAt, sourceAt}
 use Rattle.tables.specs.Lists.{isOpen, Lists, Plain, update, does, named, inFront, lists, replay}
-use Rattle.tables.specs.Causes.{notes, booksFirst, isFirstLoad, placePremise, Premise}
+use Rattle.tables.specs.Causes.{booksFirst, isFirstLoad, placePremise, Premise}
+use Rattle.tables.proofs.Updates.{update-same}
 use Rattle.agreement.specs.Statement.{Run, didEntry, recorded, kindsOf}
 use Rattle.agreement.proofs.Nums.{Who, noone, call, drain, holderOf, Nums, head}
 use Rattle.agreement.proofs.Whole.{Part, LifoPart}
-use Rattle.agreement.proofs.Frame.{update-same, column-over}
+use Rattle.agreement.proofs.Frame.{column-over}
 use Rattle.agreement.proofs.Facts.{BkB, BkF}
 use Rattle.agreement.proofs.Steps.{handed, handOver, bookStill, Still}
 use Rattle.agreement.proofs.Cells.{Cell, Member, MInv, plainOf, deedAt, does-hand, Ran}

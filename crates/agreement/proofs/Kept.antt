@@ -15,8 +15,9 @@ use Rattle.tables.proofs.Sound.{sound-facts, Alike, alike-self, alike-after}
 use Rattle.tables.proofs.Refused.{step-needs, step-if}
 use Rattle.tables.proofs.Steps.{step-alike, step-length, step-sound, begin-alike, begin-items, begin-sound}
 use Rattle.tables.proofs.Effects.{effect-below}
-use Rattle.tables.proofs.Opening.{opening-sound}
-use Rattle.agreement.specs.Statement.{Line, begins, steps, alones, Run, didEntry, recorded, kindsOf, stepped, repeated, line, runOf, Fresh, standing, count, offered}
+use Rattle.tables.proofs.OpenSound.{opening-sound}
+use Rattle.agreement.specs.Counts.{standing, count, offered}
+use Rattle.agreement.specs.Statement.{Line, begins, steps, alones, Run, didEntry, recorded, kindsOf, stepped, repeated, line, runOf, Fresh}
 use Rattle.agreement.proofs.Sum.{Below, sum}
 
 -- ---- what each step and each beginning keeps, the run does

@@ -22,7 +22,8 @@ use Rattle.tables.specs.Lists.{party, Lists, Plain, update, leave, arrive, does
 use Rattle.tables.specs.Causes.{movedBy}
 use Rattle.agreement.proofs.Nums.{Who, call, drain, holderOf, tail, more, moves, book-length}
 use Rattle.agreement.proofs.Whole.{Whole, wordsOf, words-move, RO, RB, RH}
-use Rattle.agreement.proofs.Frame.{update-elim, update-same, column, column-over, column-s, after, frame}
+use Rattle.tables.proofs.Updates.{update-elim, update-same}
+use Rattle.agreement.proofs.Frame.{column, column-over, column-s, after, frame}
 use Rattle.agreement.specs.Shows.{byDrain}
 use Rattle.agreement.proofs.Wrap.{small, diff}
 use Rattle.agreement.proofs.Ring.{tokens-zero}

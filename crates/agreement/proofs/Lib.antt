@@ -19,7 +19,6 @@ pub mod Turns
 pub mod Sources
 pub mod Land
 pub mod Turn
-pub mod Stretch
 pub mod Record
 pub mod Replay
 pub mod Good
@@ -33,6 +32,11 @@ pub mod Core
 pub mod Tally
 pub mod Sum
 pub mod Kept
-pub mod Demand3
 pub mod Alone
 pub mod Merged
+pub mod Demand3
+pub mod Tests
+pub mod Instances
+pub mod Schedules
+pub mod Claims
+pub mod Samples

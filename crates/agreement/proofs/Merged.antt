@@ -19,8 +19,8 @@ use Rattle.tables.proofs.Bools.{and-left, and-right, pick-if}
 use Rattle.tables.proofs.Updates.{update-same, update-twice}
 use Rattle.tables.proofs.Refused.{step-if}
 use Rattle.tables.proofs.Effects.{dropped-own}
-use Rattle.agreement.specs.Statement.{Run, alones, didEntry, saidEntry, stepped, line}
-use Rattle.agreement.proofs.Alone.{singles, gatheredOn, singlesOn, AsSingles, alone-is-singles}
+use Rattle.agreement.specs.Statement.{Run, kindsOf, didEntry, saidEntry, stepped, repeated, singles, gathered, putOn, AloneAgrees}
+use Rattle.agreement.proofs.Alone.{singlesOn, AsSingles, alone-is-singles}
 
 abbrev pub drop-by : (party queue count : ℕ) → Entry
 drop-by p q n = did (record { party = p; queue = q; deed = E.dropped n })
@@ -91,10 +91,6 @@ module _ (ks : ℕ → Kind) (p q j k : ℕ) (a : Plain) where
       ∙ ap (λ (t : Bool). pick (andb h t) (lists (does ks p q (E.dropped (j + k)) a)) impossible) (sym (leb-sum j k n))
 
 -- ---- a whole list of effects, put on a record
-
-unfoldable pub putOn : List Entry → List Effect → List Entry
-putOn l [] = l
-putOn l (e ∷ es) = putOn (did e ∷ l) es
 
 -- what is dropped, party p drops from its own queue
 abbrev pub Own : ℕ → Effect → Type 0
@@ -193,8 +189,8 @@ singles-own w most (suc n) r p = (
 )
 
 pub gathered-put : (ks : ℕ → Kind) (p : ℕ) (os : List Outcome) (l : List Entry) (es : List Effect) → AllOwn p es → OwnSteps p os
-    → replay ks (putOn l (gatheredOn es os)) ≡ replay ks (singlesOn (putOn l es) os)
-unfolding gatheredOn singlesOn OwnSteps
+    → replay ks (putOn l (gathered es os)) ≡ replay ks (singlesOn (putOn l es) os)
+unfolding gathered singlesOn OwnSteps
 gathered-put ks p [] l es all own = refl
 gathered-put ks p (o ∷ os) l es all own =
     gathered-put ks p os l (noted es (o .effect)) (own-noted p es (o .effect) all (own .0)) (own .1)
@@ -202,11 +198,8 @@ gathered-put ks p (o ∷ os) l es all own =
     (noted-put ks p l es (o .effect) all (own .0))
 
 -- the record of running alone, and that of the single steps
-pub alone-record : (w most : ℕ) (r : Run) (p n : ℕ) (ks : ℕ → Kind)
-    → replay ks
-    (saidEntry p (alone w most (r .machine) (r .items) p n .answer)
-    (putOn (r .record′) (alone w most (r .machine) (r .items) p n .effects)))
-    ≡ replay ks (line w most r (alones p n) .record′)
+alone-record : (w most : ℕ) (r : Run) (p n : ℕ) (ks : ℕ → Kind) → let b = alone w most (r .machine) (r .items) p n in
+    replay ks (saidEntry p (b .answer) (putOn (r .record′) (b .effects))) ≡ replay ks (repeated w most (b .steps) r p .record′)
 unfolding putOn AllOwn
 alone-record w most r p n ks =
     let b = alone w most (r .machine) (r .items) p n in
@@ -216,3 +209,16 @@ alone-record w most r p n ks =
     (ap (λ (es : List Effect). replay ks (putOn (r .record′) es)) (s .effects)
     ∙ gathered-put ks p os (r .record′) [] tt (singles-own w most (b .steps) r p))
     ∙ ap (replay ks) (sym (s .record-is))
+
+-- claim 5
+pub alone-agrees : (w most : ℕ) (r : Run) (p n : ℕ) → AloneAgrees w most r p (alone w most (r .machine) (r .items) p n)
+alone-agrees w most r p n =
+    let s = alone-is-singles w most r p n in
+    record {
+      machine = s .machine;
+      items = s .items;
+      taken = s .taken;
+      answer = s .answer;
+      effects = s .effects;
+      same-lists = alone-record w most r p n (kindsOf (r .machine));
+    }

@@ -16,9 +16,9 @@ use Rattle.tables.specs.Machine.{Drain}
 use Rattle.tables.specs.Access.{shows, sawToken}
 use Rattle.tables.specs.Answer as A
 use Rattle.tables.specs.Effect as E
-use Rattle.tables.specs.Table.{closing, drained}
-use Rattle.tables.specs.Step.{andb}
+use Rattle.tables.specs.Table.{closing}
 use Rattle.tables.specs.Lists.{heldBy, Lists, tokens, leave, can}
+use Rattle.tables.proofs.Bools.{and-left}
 use Rattle.agreement.specs.Shows.{byDrain}
 use Rattle.agreement.proofs.Wrap.{plus-is, same}
 use Rattle.agreement.proofs.Ring.{cell, getD-tokens}
@@ -26,10 +26,6 @@ use Rattle.agreement.proofs.Nums.{Who, noone, drain, Nums, tail, moves,
 use Rattle.agreement.proofs.Whole.{Whole, wordsOf, words-move, part-move, RB, RH, cap-small, slot-of}
 use Rattle.agreement.proofs.Facts.{OwnF, BkC, DrainIs, DrnF}
 use Rattle.agreement.proofs.Steps.{OwnNext}
-
-pub andb-both : (a b : Bool) → andb a b ≡ true → (a ≡ true) × (b ≡ true)
-andb-both true b e = (refl, e)
-andb-both false b e = absurd (let z : _≡_ {A = ℕ} 0 1 = cc in omega arith)
 
 module _ (w p fill : ℕ) (items hand : List ℕ) (from k : Kind) (mark : Mark) {cap : ℕ} {s : List ℕ} {g : Nums} {l : Lists}
     (i : Whole w k cap s g l) (d : Drain) (a : DrainIs w (drain p) g d) where
@@ -96,7 +92,7 @@ module _ (w p fill : ℕ) (items hand : List ℕ) (from k : Kind) (mark : Mark) 
     rh₁ r _ rm e = absurd (rm (sym e ∙ a .who-is))
 
     mine : (y : ℕ) → byDrain w p d y .holds ≡ true → eqb p y ≡ true
-    mine y h = andb-both (eqb p y) (not (eqb (d .at) (d .end))) h .0
+    mine y h = and-left (eqb p y) (not (eqb (d .at) (d .end))) h
 
     held₁ : heldBy p (l .holder) ≡ true
     held₁ = rw (i .joins .holder-is, a .who-is) (eq-eqb p p refl)

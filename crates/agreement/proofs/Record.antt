@@ -1,9 +1,8 @@
 -- The record and the lent items, read as the tables; a step of the record is the tables' step.
 use mathlib.Core.Path.{_≡_, refl, sym, ap, ap₂, subst, _∙_}
-use mathlib.Core.Logic.{_≢_, _⊎_, inl, inr}
+use mathlib.Core.Logic.{_⊎_, inl, inr}
 use mathlib.Core.List.{List}
-use Prim.Native.Nat.{ℕ, suc, _+_, _≤_, _<_}
-use native.Mathlib.Decide.{decLe}
+use Prim.Native.Nat.{ℕ, _+_, _≤_, _<_}
 use native.Mathlib.Omega.{arith}
 use lib.ListN.{length, length-set}
 use Rattle.tables.specs.Rule.{lifo, Mark}
@@ -16,11 +15,12 @@ use Rattle.tables.specs.Tables.{rowOf, sourceOf}
 use Rattle.tables.specs.Step as S
 use Rattle.tables.specs.Step.{Outcome, kindAt, placeAt, sourceAt, rowAt, site, siteAt, isWeak, accessAt, nextAt, effectOf, stored, taken}
 use Rattle.tables.specs.Lists.{update, slotsAt}
-use Rattle.agreement.proofs.Frame.{update-elim, update-same, update-other}
+use Rattle.tables.proofs.Access.{Kept, perform-keeps}
+use Rattle.tables.proofs.Bases.{base-same, base-within, stretch-back, stretch-other, restretched-length}
+use Rattle.tables.proofs.Updates.{update-elim, update-same, update-other, list-update}
 use Rattle.agreement.proofs.OwnLifo.{did}
 use Rattle.agreement.proofs.Cells.{Cell, Member, words, Ran}
 use Rattle.agreement.proofs.Turn.{sightAt}
-use Rattle.agreement.proofs.Stretch.{list-update, perform-cap, perform-kind, perform-length, base-same, base-suc, base-mono, stretch-same, stretch-before, stretch-after, restretched-length}
 
 pub record Fits (w : ℕ) (m : Machine) (xs : List ℕ) (cells : ℕ → Cell) (members : ℕ → Member) : Type 0 where
   pub q-are : (x : ℕ) → x < m .parties → queueAt m x ≡ words w (cells x)
@@ -113,9 +113,11 @@ module _ (w : ℕ) (m : Machine) (xs : List ℕ) {cells : ℕ → Cell} {members
   queues : (y : ℕ) → queueAt (takenG .machine) y ≡ update (queueAt m) siteG (didG .queue) y
   queues y = list-update (zeroQueue lifo) (m .queue) siteG (didG .queue) (omega (arith, site-in, f .long-q)) y
 
+  kept : Kept (words w (cells siteG)) (cells siteG .s) didG
+  kept = perform-keeps (words w (cells siteG)) (cells siteG .s) (rowG .access) (isWeak mark)
+
   cap-site : didG .queue .capacity ≡ queueAt m siteG .capacity
-  cap-site = perform-cap (words w (cells siteG)) (cells siteG .s) (rowG .access) (isWeak mark)
-      ∙ ap (λ (q : Queue). q .capacity) (sym (f .q-are siteG site-in))
+  cap-site = kept .capacity ∙ ap (λ (q : Queue). q .capacity) (sym (f .q-are siteG site-in))
 
   caps : (y : ℕ) → queueAt (takenG .machine) y .capacity ≡ queueAt m y .capacity
   caps y =
@@ -127,44 +129,33 @@ module _ (w : ℕ) (m : Machine) (xs : List ℕ) {cells : ℕ → Cell} {members
   kinds-s y =
       ap (λ (q : Queue). q .kind) (queues y)
       ∙ update-elim (queueAt m) siteG (didG .queue) (λ (q : Queue). q .kind ≡ queueAt m y .kind) y
-      (λ e. perform-kind (words w (cells siteG)) (cells siteG .s) (rowG .access) (isWeak mark)
-      ∙ ap (λ (q : Queue). q .kind) (sym (f .q-are siteG site-in)) ∙ ap (λ (z : ℕ). queueAt m z .kind) (sym e)) (λ _. refl)
+      (λ e. kept .kind ∙ ap (λ (q : Queue). q .kind) (sym (f .q-are siteG site-in)) ∙ ap (λ (z : ℕ). queueAt m z .kind) (sym e)) (λ _. refl)
 
   bases : (y : ℕ) → baseOf y (takenG .machine .queue) ≡ baseOf y (m .queue)
-  bases y = base-same (takenG .machine .queue) (m .queue) caps y
+  bases y = base-same y (takenG .machine .queue) (m .queue) caps
 
   cap-is : queueAt m siteG .capacity ≡ cells siteG .cap
   cap-is = ap (λ (q : Queue). q .capacity) (f .q-are siteG site-in)
 
-  -- a stretch ends before the next begins
-  ends-by : (x y : ℕ) → x < y → baseOf x (m .queue) + queueAt m x .capacity ≤ baseOf y (m .queue)
-  ends-by x y lt = omega (arith, base-suc (m .queue) x, base-mono (m .queue) (suc x) y lt)
+  room : baseOf siteG (m .queue) + queueAt m siteG .capacity ≤ length xs
+  room = omega (arith, base-within (m .queue) site-in, f .lent)
 
-  room : baseOf siteG (m .queue) + cells siteG .cap ≤ length xs
-  room = omega (arith, cap-is, ends-by siteG (m .parties) site-in, f .lent)
+  -- the items after it, by the record's own capacity
+  items-are : takenG .items ≡ restretched (baseOf siteG (m .queue)) (queueAt m siteG .capacity) (didG .slots) xs
+  items-are = ap (λ (c : ℕ). restretched (baseOf siteG (m .queue)) c (didG .slots) xs) (sym cap-is)
 
   module _ (sized : length (cells siteG .s) ≡ cells siteG .cap) where
-    long : length (didG .slots) ≡ cells siteG .cap
-    long = perform-length (words w (cells siteG)) (cells siteG .s) (rowG .access) (isWeak mark) ∙ sized
+    long : length (didG .slots) ≡ queueAt m siteG .capacity
+    long = kept .length-is ∙ sized ∙ sym cap-is
 
     slots-after : (y : ℕ) → y < m .parties → slotsAt (takenG .machine) (takenG .items) y ≡ update (λ (z : ℕ). cells z .s) siteG
         (didG .slots) y
     slots-after y lt =
-        ap₂ (λ (b c : ℕ). stretch b c (takenG .items)) (bases y) (caps y)
+        (λ i. stretch (bases y i) (caps y i) (items-are i))
         ∙ update-elim (λ (z : ℕ). cells z .s) siteG (didG .slots) (λ (l : List ℕ). stretch (baseOf y (m .queue)) (queueAt m y .capacity)
-        (takenG .items) ≡ l) y
-        (λ e. ap₂ (λ (b c : ℕ). stretch b c (takenG .items)) (ap (λ (z : ℕ). baseOf z (m .queue)) e)
-        (ap (λ (z : ℕ). queueAt m z .capacity) e ∙ cap-is)
-        ∙ stretch-same xs (didG .slots) (baseOf siteG (m .queue)) (cells siteG .cap) long room)
-        (λ ne. apart ne (decLe y siteG) ∙ f .s-are y lt)
-      where
-        apart : y ≢ siteG → Dec (y ≤ siteG) → stretch (baseOf y (m .queue)) (queueAt m y .capacity) (takenG .items) ≡ slotsAt m xs y
-        apart ne (yes h) =
-            stretch-before xs (didG .slots) (baseOf siteG (m .queue)) (cells siteG .cap) long room (baseOf y (m .queue))
-            (queueAt m y .capacity) (ends-by y siteG (let z : y ≢ siteG = ne in omega arith))
-        apart ne (no h) =
-            stretch-after xs (didG .slots) (baseOf siteG (m .queue)) (cells siteG .cap) long room (baseOf y (m .queue))
-            (queueAt m y .capacity) (omega (arith, ends-by siteG y (omega arith), cap-is))
+        (restretched (baseOf siteG (m .queue)) (queueAt m siteG .capacity) (didG .slots) xs) ≡ l) y
+        (λ e. rw e (stretch-back (baseOf siteG (m .queue)) (queueAt m siteG .capacity) xs (didG .slots) room long))
+        (λ ne. stretch-other (m .queue) xs (didG .slots) siteG y (λ e. ne (sym e)) room long ∙ f .s-are y lt)
 
     pub fits-after : (n : ℕ) (r : Ran w n cells members p (members p .pl) mark siteG didG nextG)
         → Fits w (takenG .machine) (takenG .items) (r .cells′) (r .members′)
@@ -192,7 +183,8 @@ module _ (w : ℕ) (m : Machine) (xs : List ℕ) {cells : ℕ → Cell} {members
       lent = omega (
         arith,
         bases (m .parties),
-        restretched-length xs (didG .slots) (baseOf siteG (m .queue)) (cells siteG .cap) long room,
+        ap length items-are,
+        restretched-length (baseOf siteG (m .queue)) (queueAt m siteG .capacity) xs (didG .slots) room long,
         f .lent,
       );
     }

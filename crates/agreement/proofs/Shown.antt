@@ -15,13 +15,13 @@ use Rattle.tables.specs.Errand.{Trip}
 use Rattle.tables.specs.Machine.{Drain, Machine}
 use Rattle.tables.specs.Tables.{sourceOf, endingSource}
 use Rattle.tables.specs.Lists.{Holder, nobody, party, Lists, tokens, headOf, tailOf}
+use Rattle.tables.proofs.Bools.{and-left, and-right}
 use Rattle.agreement.specs.Shows.{keptOf, Held, byTrip, byPlace, byDrain, either, heldAt, holderTo}
 use Rattle.agreement.proofs.Wrap.{diff-word, diff, high-is, low-is}
 use Rattle.agreement.proofs.Ring.{tokens-zero, tokens-cong}
 use Rattle.agreement.proofs.Nums.{Who, call, drain, holderOf, Nums, head, tail, book-none}
 use Rattle.agreement.proofs.Whole.{Whole, wordsOf, cap-small, slot-of}
 use Rattle.agreement.proofs.Facts.{BkF, BkC, Keeps, endWho, DrainIs, DrnF}
-use Rattle.agreement.proofs.OwnDrain.{andb-both}
 use Rattle.agreement.proofs.Close.{end-mine}
 use Rattle.agreement.proofs.Cells.{Cell}
 
@@ -140,9 +140,11 @@ module _ (w r q fm : ℕ) (items : List ℕ) (cells : ℕ → Cell) (oks : (x : 
   drain-holds : (d : Drain) → DrnF w r d (cells r .g) → byDrain w r d q .holds ≡ true
       → HoldsIt w (cells q .cap) (cells q .s) r (cells q .g) (cells q .l) (byDrain w r d q)
   drain-holds d f e =
-      let b = andb-both (eqb r q) (not (eqb (d .at) (d .end))) e in
-      let a : DrainIs w (drain r) (cells r .g) d = f (eqb-false (d .at) (d .end) (not-true (eqb (d .at) (d .end)) (b .1))) in
-      let c : DrainIs w (drain r) (cells q .g) d = subst (λ (z : ℕ). DrainIs w (drain r) (cells z .g) d) (eqb-true r q (b .0)) a in
+      let t = not (eqb (d .at) (d .end)) in
+      let a : DrainIs w (drain r) (cells r .g) d =
+      f (eqb-false (d .at) (d .end) (not-true (eqb (d .at) (d .end)) (and-right (eqb r q) t e))) in
+      let c : DrainIs w (drain r) (cells q .g) d = subst (λ (z : ℕ). DrainIs w (drain r) (cells z .g) d)
+      (eqb-true r q (and-left (eqb r q) t e)) a in
       let n : minus w (d .end) (d .at) + (cells q .g .done + cells q .g .taken) ≡ cells q .g .done + cells q .g .taken + cells q .g .left =
       diff w (cells q .g .done + cells q .g .taken + cells q .g .left) (cells q .g .done + cells q .g .taken) (c .end-is) (c .at-is)
       (omega arith) (omega (arith, oks q .joins .fits, cap-small w (cells q .kind) (oks q))) in

@@ -15,8 +15,9 @@ use Rattle.tables.specs.Row.{Next}
 use Rattle.tables.specs.Tables.{sourceOf}
 use Rattle.tables.specs.Lists.{party, update, named, inFront}
 use Rattle.tables.specs.Causes.{isFirstLoad, isHeadLoad}
+use Rattle.tables.proofs.Updates.{update-elim, update-same}
 use Rattle.agreement.proofs.Nums.{Who, noone, call, drain, holderOf}
-use Rattle.agreement.proofs.Frame.{update-elim, update-same, after, frame}
+use Rattle.agreement.proofs.Frame.{after, frame}
 use Rattle.agreement.proofs.Facts.{OwnF, BkF, DrnF, held}
 use Rattle.agreement.proofs.Stable.{own-stable, bkr-stable, drn-stable}
 use Rattle.agreement.proofs.Steps.{changed, itemsAfter, handOver, Still, SrcNext}

@@ -17,7 +17,7 @@ use Rattle.tables.specs.Step.{andb}
 use Rattle.tables.specs.Lists.{Holder, nobody, party, isOpen, heldBy, Lists, Plain, nothingYet, update, offer, accept, popFrom, pop, book, leave, arrive, shut, onQueue, lands, does, isNil, can, named, handOut, inFront, Entry, did, said, Replayed, impossible, lists, replayEntry, replayFrom, replay}
 use Rattle.tables.proofs.Bools.{and-left, and-right}
 use Rattle.tables.proofs.Updates.{update-if}
-use Rattle.agreement.specs.Statement.{one, count, standing, offers, offered}
+use Rattle.agreement.specs.Counts.{one, count, standing, offers, offered}
 use Rattle.agreement.proofs.Tally.{count-append, count-one, count-none, count-next, in-offer, in-accept, in-pop, in-book, in-leave, in-arrive, in-shut, on-queue, on-hand, in-hand, drops-out}
 
 -- with what was handed out and dropped, an effect that the lists can do adds what it offers

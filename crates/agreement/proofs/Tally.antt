@@ -11,7 +11,7 @@ use Rattle.tables.specs.Rule.{Kind, lifo, fifo}
 use Rattle.tables.specs.Lists.{Lists, Plain, update, offer, accept, popFrom, pop, book, leave, arrive, shut, onQueue, inHand, dropsOut}
 use Rattle.tables.proofs.Bools.{equal-or-not}
 use Rattle.tables.proofs.Updates.{update-same, update-other}
-use Rattle.agreement.specs.Statement.{one, count, inLists, standing}
+use Rattle.agreement.specs.Counts.{one, count, inLists, standing}
 
 -- ---- how often a token stands in a list
 

@@ -17,7 +17,8 @@ use Rattle.tables.specs.Tables.{sourceOf}
 use Rattle.tables.specs.Lists.{party, Lists, update, does, can, named, inFront}
 use Rattle.tables.specs.Causes.{movedBy, isFirstLoad, isHeadLoad, fillOf}
 use Rattle.agreement.proofs.Nums.{Who, noone, call, drain, holderOf, Nums}
-use Rattle.agreement.proofs.Frame.{update-elim, update-same, column, column-s, after, frame}
+use Rattle.tables.proofs.Updates.{update-elim, update-same}
+use Rattle.agreement.proofs.Frame.{column, column-s, after, frame}
 use Rattle.agreement.proofs.Facts.{BkF, held}
 use Rattle.agreement.proofs.Stable.{bkr-stable, drn-stable}
 use Rattle.agreement.proofs.Steps.{changed, handed, Single, handOver, Why, Still, OwnNext}

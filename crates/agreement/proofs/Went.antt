@@ -15,7 +15,7 @@ use Rattle.tables.specs.Causes.{Notes, notes, movedBy, isFirstLoad, isHeadLoad,
 use Rattle.agreement.specs.Statement.{Run, didEntry, listsOf, replayed, afterStep}
 use Rattle.agreement.proofs.Nums.{noone, head}
 use Rattle.agreement.proofs.Whole.{LifoPart}
-use Rattle.agreement.proofs.Frame.{update-elim, update-other}
+use Rattle.tables.proofs.Updates.{update-elim, update-other}
 use Rattle.agreement.proofs.Facts.{BkF}
 use Rattle.agreement.proofs.Steps.{Still}
 use Rattle.agreement.proofs.Cells.{Ran}

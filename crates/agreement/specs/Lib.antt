@@ -1,2 +1,3 @@
 pub mod Shows
+pub mod Counts
 pub mod Statement

@@ -1,9 +1,9 @@
 -- What slots and counters show of each queue, in the form of its plain lists.
 use Prim.Native.Nat.{ℕ, zero, suc}
-use mathlib.Core.Bool.{Bool, true, false, not}
+use mathlib.Core.Bool.{Bool, false, not}
 use mathlib.Core.List.{List, []}
 use lib.Dec.{eqb}
-use Rattle.words.specs.Word.{pick, orb, minus, high, low}
+use Rattle.words.specs.Word.{pick, minus, high, low}
 use Rattle.tables.specs.Rule.{Kind, lifo, fifo}
 use Rattle.tables.specs.Errand.{Trip}
 use Rattle.tables.specs.Place as P
@@ -11,7 +11,7 @@ use Rattle.tables.specs.Place.{Place, OwnPlace, MovePlace}
 use Rattle.tables.specs.Machine.{Queue, Drain, Machine, partyAt, queueAt}
 use Rattle.tables.specs.Tables.{endingSource}
 use Rattle.tables.specs.Step.{andb, placeAt, kindAt}
-use Rattle.tables.specs.Lists.{Holder, nobody, party, Lists, tokens, headOf, tailOf, slotsAt, restingAt}
+use Rattle.tables.specs.Lists.{Holder, nobody, party, Lists, tokens, tailOf, slotsAt, restingAt}
 
 -- ---- waiting: written by the owner's push or extend past the tail, not stored yet
 
@@ -94,9 +94,9 @@ bookedBy w m xs q (party p) = tokensAt w m xs q (heldAt w m p q .at) (heldAt w m
 -- what the machine shows of queue q
 unfoldable pub shows : ℕ → Machine → List ℕ → ℕ → Lists
 shows w m xs q = record {
-    waiting = tokensAt w m xs q (tailAt w m q) (waits (placeAt m q));
-    resting = restingAt w m xs q;
-    booked = bookedBy w m xs q (holderTo w m (m .parties) q);
-    holder = holderTo w m (m .parties) q;
-    kept = keptOf w (kindAt m q) (queueAt m q)
-  }
+  waiting = tokensAt w m xs q (tailAt w m q) (waits (placeAt m q));
+  resting = restingAt w m xs q;
+  booked = bookedBy w m xs q (holderTo w m (m .parties) q);
+  holder = holderTo w m (m .parties) q;
+  kept = keptOf w (kindAt m q) (queueAt m q);
+}

@@ -1,39 +1,46 @@
--- DEMAND 3. From a fresh machine, after any schedule that keeps the premise: the recorded effects, replayed on plain lists, give what
--- slots and counters show; each token handed out is the one that the lists give; no token is lost; each "none", "full", "busy" and
--- "empty" had its cause within its call.
-use Prim.Native.Nat.{ℕ, zero, suc, _+_, _^_, _≤_, _<_}
+-- DEMAND 3. From a fresh machine, after any schedule that keeps the premise:
+-- 1. the recorded effects, replayed on plain lists, are all ones that the lists can do, and give what slots and counters show;
+-- 2. each token that an answer hands out is the one that the lists put in that party's hand;
+-- 3. the offered tokens are those waiting, resting, booked, in hand, handed out or dropped, each as often;
+-- 4. each "none", "full", "busy" and "empty" had its cause within its call;
+-- 5. a run alone is that many single steps.
+-- begin, step, alone and opening are those of tables/specs/Step. Lists, what an effect does to them and when it cannot, replay:
+-- tables/specs/Lists. Causes, the premise at a step: tables/specs/Causes. What slots and counters show: Shows. Counting: Counts.
+use Prim.Native.Nat.{ℕ, zero, suc, _+_, _^_, _<_}
 use mathlib.Core.Path.{_≡_}
-use mathlib.Core.Bool.{Bool}
-use mathlib.Core.List.{List, [], _∷_, _++_}
+use mathlib.Core.List.{List, [], _∷_}
 use lib.ListN.{length, getD}
 use lib.Dec.{eqb}
 use Rattle.words.specs.Word.{pick}
 use Rattle.tables.specs.Rule.{Kind, Mark, plain}
 use Rattle.tables.specs.Call.{Call}
 use Rattle.tables.specs.Machine.{Machine, queueAt}
+use Rattle.tables.specs.Answer as A
 use Rattle.tables.specs.Answer.{Answer, isPending}
-use Rattle.tables.specs.Effect as E
-use Rattle.tables.specs.Effect.{Deed, Effect, isNothing}
-use Rattle.tables.specs.Step.{Outcome, begin, step, alone, opening, noted}
-use Rattle.tables.specs.Lists.{Lists, Plain, nothingYet, Entry, did, said, Replayed, impossible, lists, replay}
+use Rattle.tables.specs.Effect.{Effect, isNothing}
+use Rattle.tables.specs.Step.{Outcome, begin, step, Alone, alone, noted, opening}
+use Rattle.tables.specs.Lists.{Plain, nothingYet, Entry, did, said, Replayed, impossible, lists, replay}
 use Rattle.tables.specs.Causes.{Notes, noNotes, notes, Premise, Cause}
 use Rattle.agreement.specs.Shows.{shows}
+use Rattle.agreement.specs.Counts.{count, standing, offered}
 
 -- ---- schedules and runs
 
+-- a schedule is a list of lines, any of them, in any order; a refused one changes nothing
 pub data Line : Type 0 where
   begins : (party : ℕ) → Call → Line
   steps : (party : ℕ) → Mark → Line
   alones : (party budget : ℕ) → Line
 
--- what a run has come to: machine and items; the record of effects and answers, newest first; what was noted along it
+-- What a run has come to: machine and items; the record of its effects and answers, newest first; and what was noted along it, from
+-- the lists, for the premise and the causes.
 pub record Run : Type 0 where
   pub machine : Machine
   pub items : List ℕ
   pub record′ : List Entry
   pub notes : Notes
 
--- a step's effect and answer, recorded where there is one
+-- a step's effect, then its answer, where it has one
 abbrev pub didEntry : Effect → List Entry → List Entry
 didEntry e l = pick (isNothing (e .deed)) l (did e ∷ l)
 
@@ -46,7 +53,7 @@ recorded p o l = saidEntry p (o .answer) (didEntry (o .effect) l)
 abbrev pub kindsOf : Machine → ℕ → Kind
 kindsOf m q = queueAt m q .kind
 
--- the lists that a record gives
+-- the lists that a record gives (of an impossible record, which claim 1 excludes: none)
 abbrev pub listsOf : Replayed → Plain
 listsOf impossible = nothingYet
 listsOf (lists a) = a
@@ -54,34 +61,36 @@ listsOf (lists a) = a
 abbrev pub replayed : Machine → List Entry → Plain
 replayed m l = listsOf (replay (kindsOf m) l)
 
+-- a refused step is not noted
 abbrev pub afterStep : Run → ℕ → Outcome → Run
 afterStep r p o = record {
-    machine = o .machine;
-    items = o .items;
-    record′ = recorded p o (r .record′);
-    notes =
+  machine = o .machine;
+  items = o .items;
+  record′ = recorded p o (r .record′);
+  notes =
       pick (eqb (o .refusal) 0)
       (notes (r .machine) p (replayed (r .machine) (r .record′)) (replayed (r .machine) (didEntry (o .effect) (r .record′)))
-      (o .effect .queue) (o .effect .deed) (r .notes)) (r .notes)
-  }
+      (o .effect .queue) (o .effect .deed) (r .notes)) (r .notes);
+}
 
 module _ (w most : ℕ) where
   abbrev pub begun : Run → ℕ → Call → Run
   begun r p c = record {
-      machine = begin w most (r .machine) (r .items) p c .machine;
-      items = begin w most (r .machine) (r .items) p c .items;
-      record′ = r .record′;
-      notes = r .notes
-    }
+    machine = begin w most (r .machine) (r .items) p c .machine;
+    items = begin w most (r .machine) (r .items) p c .items;
+    record′ = r .record′;
+    notes = r .notes;
+  }
 
   abbrev pub stepped : Run → ℕ → Mark → Run
   stepped r p k = afterStep r p (step w most (r .machine) (r .items) p k)
 
-  -- a run alone is that many steps
+  -- as many plain steps of one party
   unfoldable pub repeated : ℕ → Run → ℕ → Run
   repeated zero r p = r
   repeated (suc n) r p = repeated n (stepped r p plain) p
 
+  -- a run alone counts as the steps that it reports (claim 5)
   abbrev pub line : Run → Line → Run
   line r (begins p c) = begun r p c
   line r (steps p k) = stepped r p k
@@ -91,7 +100,7 @@ module _ (w most : ℕ) where
   runOf r [] = r
   runOf r (x ∷ xs) = runOf (line r x) xs
 
-  -- ---- the premise, at each step of the schedule
+  -- ---- the premise, before each step of the schedule: it asks something of steps inside a booking only
 
   unfoldable pub RepeatKeeps : ℕ → Run → ℕ → Type 0
   RepeatKeeps zero r p = Unit {0}
@@ -106,7 +115,7 @@ module _ (w most : ℕ) where
   Keeps r [] = Unit {0}
   Keeps r (x ∷ xs) = LineKeeps r x × Keeps (line r x) xs
 
-  -- ---- a fresh machine: opened and not refused, positions within the width
+  -- ---- a fresh machine: what an opening that is not refused gives, on any items, at positions of w bits; nothing recorded yet
 
   pub record Fresh (r : Run) : Type 0 where
     pub kinds : List Kind
@@ -120,53 +129,57 @@ module _ (w most : ℕ) where
     pub record-is : r .record′ ≡ []
     pub notes-are : r .notes ≡ noNotes
 
--- ---- the sum: how often a token stands in a list, in the lists of n queues and hands, and among the offered
+  -- ---- what that many single steps give, one after the other
 
-abbrev pub one : ℕ → ℕ → ℕ
-one t x = pick (eqb t x) 1 0
+  unfoldable pub singles : ℕ → Run → ℕ → List Outcome
+  singles zero r p = []
+  singles (suc n) r p = step w most (r .machine) (r .items) p plain ∷ singles n (stepped r p plain) p
 
-unfoldable pub count : ℕ → List ℕ → ℕ
-count t [] = 0
-count t (x ∷ xs) = one t x + count t xs
+unfoldable pub NoneRefused : List Outcome → Type 0
+NoneRefused [] = Unit {0}
+NoneRefused (o ∷ l) = (o .refusal ≡ 0) × NoneRefused l
 
-abbrev pub inLists : ℕ → Lists → ℕ
-inLists t l = count t (l .waiting) + (count t (l .resting) + count t (l .booked))
+unfoldable pub lastAnswer : Answer → List Outcome → Answer
+lastAnswer a [] = a
+lastAnswer a (o ∷ l) = lastAnswer (o .answer) l
 
-unfoldable pub standing : ℕ → Plain → ℕ → ℕ
-standing t a zero = 0
-standing t a (suc n) = standing t a n + (inLists t (a .queue n) + count t (a .hand n))
+-- their effects, dropped ones in a row as one (`noted`)
+unfoldable pub gathered : List Effect → List Outcome → List Effect
+gathered es [] = es
+gathered es (o ∷ l) = gathered (noted es (o .effect)) l
 
-abbrev pub offers : ℕ → Deed → ℕ
-offers t E.nothing = 0
-offers t (E.offered x) = one t x
-offers t E.accepted = 0
-offers t E.popped = 0
-offers t (E.booked n) = 0
-offers t (E.landed n) = 0
-offers t (E.landedLast n) = 0
-offers t E.drained = 0
-offers t (E.dropped n) = 0
-offers t E.closed = 0
-
-unfoldable pub offered : ℕ → List Entry → ℕ
-offered t [] = 0
-offered t (did e ∷ l) = offers t (e .deed) + offered t l
-offered t (said p r ∷ l) = offered t l
+-- effects put on a record, in their order
+unfoldable pub putOn : List Entry → List Effect → List Entry
+putOn l [] = l
+putOn l (e ∷ es) = putOn (did e ∷ l) es
 
 -- ---- the claims, of a run that has come to r
 
+-- claim 5, of what a run alone b of party p gives back there
+pub record AloneAgrees (w most : ℕ) (r : Run) (p : ℕ) (b : Alone) : Type 0 where
+  pub machine : repeated w most (b .steps) r p .machine ≡ b .machine
+  pub items : repeated w most (b .steps) r p .items ≡ b .items
+  pub taken : NoneRefused (singles w most (b .steps) r p)
+  pub answer : b .answer ≡ lastAnswer A.pending (singles w most (b .steps) r p)
+  pub effects : b .effects ≡ gathered [] (singles w most (b .steps) r p)
+  -- its effects and answer, put on the record as they are, replay to the same lists
+  pub same-lists :
+      replay (kindsOf (r .machine)) (saidEntry p (b .answer) (putOn (r .record′) (b .effects)))
+      ≡ replay (kindsOf (r .machine)) (repeated w most (b .steps) r p .record′)
+
 pub record Agrees (w most : ℕ) (r : Run) : Type 0 where
   pub plain : Plain
-  -- every recorded effect is one that the lists can do, and each token handed out is the one in hand
+  -- claims 1 and 2: no effect that the lists cannot do, no token handed out that is not in hand
   pub possible : replay (kindsOf (r .machine)) (r .record′) ≡ lists plain
-  -- in order, what slots and counters show
+  -- claim 1: waiting, resting and booked in order, whose booking is open, how many slots are not yet given back
   pub shown : (q : ℕ) → q < r .machine .parties → plain .queue q ≡ shows w (r .machine) (r .items) q
-  -- offered tokens are those waiting, resting, booked, in hand, handed out or dropped
+  -- claim 3
   pub sum : (t : ℕ) → offered t (r .record′) ≡ standing t plain (r .machine .parties) + (count t (plain .out) + count t (plain .gone))
-  -- the answer of any further step that keeps the premise has its cause
+  -- claim 4, of the answer of any next step
   pub caused :
-    (p : ℕ) (k : Mark) → Premise w (r .machine) (r .notes) p
-    → Cause w (r .machine) p k (replayed (r .machine) (r .record′)) (stepped w most r p k .notes) (step w most (r .machine) (r .items) p k .answer)
+      (p : ℕ) (k : Mark) → Premise w (r .machine) (r .notes) p
+      → Cause w (r .machine) p k (replayed (r .machine) (r .record′)) (stepped w most r p k .notes) (step w most (r .machine) (r .items) p k .answer)
+  pub alone-agrees : (p n : ℕ) → AloneAgrees w most r p (alone w most (r .machine) (r .items) p n)
 
 unfoldable pub Demand3 : ℕ → ℕ → Type 0
 Demand3 w most = (r : Run) (s : List Line) → Fresh w most r → Keeps w most r s → Agrees w most (runOf w most r s)

@@ -1,32 +1,27 @@
 -- An act on the desk, put back, is the act on the machine.
-use Prim.Native.Nat.{ℕ, zero, suc, _+_, _%_, _≤_, _<_}
+use Prim.Native.Nat.{ℕ, _%_, _<_}
 use mathlib.Core.Path.{_≡_, refl, sym, ap, ap₂, subst, _∙_}
-use mathlib.Core.Bool.{Bool, true, false, not, true≢false}
+use mathlib.Core.Bool.{Bool, true, false}
 use mathlib.Core.List.{List, []}
-use mathlib.Core.Logic.{_≢_, ⊎-elim}
-use native.Mathlib.Nat.{mod-eq-of-lt, mod-lt}
+use native.Mathlib.Nat.{mod-eq-of-lt}
 use native.Mathlib.Omega.{arith}
-use borrow.Author.Tests.{eq-eqb, ne-eqb, ltb-true}
+use borrow.Author.Tests.{ltb-true}
 use lib.Dec.{ltb, eqb}
-use lib.ListN.{length, getD, set}
-use Rattle.words.specs.Word.{pick, Pow}
+use lib.ListN.{length}
+use Rattle.words.specs.Word.{pick}
 use Rattle.words.proofs.Powers.{power-of}
-use Rattle.tables.specs.Rule.{Mark, plain}
+use Rattle.tables.specs.Rule.{Mark}
 use Rattle.tables.specs.Call.{Call}
-use Rattle.tables.specs.Place.{Place}
-use Rattle.tables.specs.Machine.{Queue, Party, Machine, partyAt, queueAt, baseOf}
+use Rattle.tables.specs.Machine.{Machine, partyAt, queueAt}
 use Rattle.tables.specs.Answer as A
-use Rattle.tables.specs.Effect as E
-use Rattle.tables.specs.Effect.{Effect}
-use Rattle.tables.specs.Tables.{isIdle, sourceOf, start, callSource}
-use Rattle.tables.specs.Step.{Outcome, Alone, sound, placeAt, sightOf, begun, refused, markRefusal, beginRefusal, stepRefusal, aloneRefusal, begin, step, alone, taken, runs, still, appended, noted, noEffect}
+use Rattle.tables.specs.Tables.{isIdle, sourceOf}
+use Rattle.tables.specs.Step.{sound, placeAt, sightOf, begun, refused, beginRefusal, stepRefusal, aloneRefusal, begin, step, alone, taken, runs, still, noEffect}
 use Rattle.tables.proofs.Bases.{base-within}
-use Rattle.tables.proofs.Bools.{pick-yes, pick-no}
 use Rattle.tables.proofs.Sound.{Sound, sound-facts}
 use Rattle.machine.specs.Act as Ac
-use Rattle.machine.specs.Act.{Act, Acted, acted, ofOutcome, ofAlone}
-use Rattle.machine.specs.Desk.{Desk, Look, deskSight, deskStep, ranNone, deskRuns, loneOf, beginCode, stepCode, aloneCode, Turned, asCame, begunDesk, ofDid, ofLone, turned, putBack, putActed, Ready}
-use Rattle.machine.proofs.Desks.{deskOf, lookOf, put-same, Seated, outcomeOf, turn-is, aloneOf, Going, runs-are}
+use Rattle.machine.specs.Act.{Act, acted, ofOutcome, ofAlone}
+use Rattle.machine.specs.Desk.{Desk, Look, deskStep, ranNone, deskRuns, loneOf, beginCode, stepCode, asCame, begunDesk, ofDid, ofLone, turned, putActed, Ready}
+use Rattle.machine.proofs.Desks.{deskOf, lookOf, put-same, Seated, turn-is, runs-are}
 
 -- ---- refused: everything as it came
 
@@ -51,13 +46,13 @@ module _ (w most : ℕ) (m : Machine) (xs : List ℕ) (who : ℕ) (sized : Seate
 
   begin-is : (c : Call) → putActed m who f (asCame (begunDesk d c) xs 0) ≡ ofOutcome (record { machine = begun m who c; items = xs; answer = A.pending; effect = noEffect; refusal = 0 })
   begin-is c = λ i. record {
-      machine = record { parties = m .parties; party = begun m who c .party; queue = put-same m who f i .queue };
-      items = xs;
-      answer = A.pending;
-      effects = Ac.threeEffects [];
-      steps = 0;
-      refusal = 0
-    }
+    machine = record { parties = m .parties; party = begun m who c .party; queue = put-same m who f i .queue };
+    items = xs;
+    answer = A.pending;
+    effects = Ac.threeEffects [];
+    steps = 0;
+    refusal = 0;
+  }
 
   run-is : (b : ℕ) → isIdle (placeAt m who) ≡ false → putActed m who f (ofLone (loneOf (deskRuns w l who f b (ranNone d xs)))) ≡ ofAlone (runs w who b (still m xs 0))
   run-is b h =
@@ -71,11 +66,11 @@ module _ (w most : ℕ) (m : Machine) (xs : List ℕ) (who : ℕ) (sized : Seate
     going-begin c = rw ok (at (beginCode true (m .parties) who (placeAt m who) c))
       where
         at : (code : ℕ) → putActed m who f (pick (eqb code 0) (asCame (begunDesk d c) xs 0) (asCame d xs code))
-          ≡ ofOutcome (pick (eqb code 0) (record { machine = begun m who c; items = xs; answer = A.pending; effect = noEffect; refusal = 0 }) (refused m xs code))
+            ≡ ofOutcome (pick (eqb code 0) (record { machine = begun m who c; items = xs; answer = A.pending; effect = noEffect; refusal = 0 }) (refused m xs code))
         at code = by (eqb code 0)
           where
             by : (b : Bool) → putActed m who f (pick b (asCame (begunDesk d c) xs 0) (asCame d xs code))
-              ≡ ofOutcome (pick b (record { machine = begun m who c; items = xs; answer = A.pending; effect = noEffect; refusal = 0 }) (refused m xs code))
+                ≡ ofOutcome (pick b (record { machine = begun m who c; items = xs; answer = A.pending; effect = noEffect; refusal = 0 }) (refused m xs code))
             by true = begin-is c
             by false = refused-is m xs who f code
 
@@ -92,8 +87,8 @@ module _ (w most : ℕ) (m : Machine) (xs : List ℕ) (who : ℕ) (sized : Seate
     going-alone b = rw ok (by (ltb who (m .parties)) (isIdle (placeAt m who)) refl)
       where
         by : (t i : Bool) → isIdle (placeAt m who) ≡ i
-          → putActed m who f (pick (eqb (pick t (pick i 4 0) 2) 0) (ofLone (loneOf (deskRuns w l who f b (ranNone d xs)))) (asCame d xs (pick t (pick i 4 0) 2)))
-          ≡ ofAlone (pick (eqb (pick t (pick i 4 0) 2) 0) (runs w who b (still m xs 0)) (still m xs (pick t (pick i 4 0) 2)))
+            → putActed m who f (pick (eqb (pick t (pick i 4 0) 2) 0) (ofLone (loneOf (deskRuns w l who f b (ranNone d xs)))) (asCame d xs (pick t (pick i 4 0) 2)))
+            ≡ ofAlone (pick (eqb (pick t (pick i 4 0) 2) 0) (runs w who b (still m xs 0)) (still m xs (pick t (pick i 4 0) 2)))
         by true true e = refused-is m xs who f 4
         by true false e = run-is b e
         by false i e = refused-is m xs who f 2
@@ -146,14 +141,14 @@ module _ (w most : ℕ) (m : Machine) (xs : List ℕ) (who : ℕ) (few-parties :
 
     seated : Seated m who f (deskOf m who f)
     seated = record {
-        party-in = omega (arith, facts .few, few-parties);
-        own-in = omega (arith, facts .few, few-queues);
-        source-in = omega (arith, facts .few, few-queues, source-below);
-        own-capacity = refl;
-        source-capacity = refl;
-        own-kind = refl;
-        source-kind = refl
-      }
+      party-in = omega (arith, facts .few, few-parties);
+      own-in = omega (arith, facts .few, few-queues);
+      source-in = omega (arith, facts .few, few-queues, source-below);
+      own-capacity = refl;
+      source-capacity = refl;
+      own-kind = refl;
+      source-kind = refl;
+    }
 
     went : (act : Act) → putActed m x y (turned w ok (m .parties) who f l here xs act) ≡ acted w most m xs who act
     went act =
@@ -170,7 +165,7 @@ module _ (w most : ℕ) (m : Machine) (xs : List ℕ) (who : ℕ) (few-parties :
           own-power = power-of w (queueAt m who .capacity) (facts .power who h);
           source-power = power-of w (queueAt m f .capacity) (facts .power f source-below);
           own-fits = omega (arith, base-within (m .queue) h, facts .fits);
-          source-fits = omega (arith, base-within (m .queue) source-below, facts .fits)
+          source-fits = omega (arith, base-within (m .queue) source-below, facts .fits);
         }))
 
   pub act-is : (act : Act) → putActed m x y (turned w ok (m .parties) who f l here xs act) ≡ acted w most m xs who act

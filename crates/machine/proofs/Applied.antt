@@ -6,7 +6,7 @@ use mathlib.Core.List.{List}
 use native.Mathlib.Omega.{arith}
 use native.Mathlib.Nat.{mod-lt, mod-eq-of-lt}
 use borrow.Author.Tests.{leb-true, le-leb}
-use lib.Dec.{ltb, leb, eqb}
+use lib.Dec.{leb, eqb}
 use lib.ListN.{length, length-map, getD}
 use Rattle.words.specs.Edition.{width}
 use Rattle.words.specs.Word.{pick}
@@ -14,7 +14,7 @@ use Rattle.tables.specs.Rule.{Kind, lifo}
 use Rattle.tables.specs.Machine as M
 use Rattle.tables.specs.Machine.{idleParty, zeroQueue, partyAt, queueAt}
 use Rattle.tables.specs.Tables.{sourceOf}
-use Rattle.tables.specs.Step.{kindAt, sound, soundAt, placeAt}
+use Rattle.tables.specs.Step.{kindAt, sound}
 use Rattle.tables.proofs.Bools.{pick-yes}
 use Rattle.tables.proofs.Sound.{Sound, sound-facts}
 use Rattle.queue.specs.declared.Place.the-variants as Place·v
@@ -23,8 +23,7 @@ use Rattle.queue.specs.View.{viewKind, viewQueue, viewPlace}
 use Rattle.machine.specs.declared.Party.{Party}
 use Rattle.machine.specs.declared.Machine.{Machine}
 use Rattle.machine.specs.Act.{Act, acted}
-use Rattle.machine.specs.Desk as D
-use Rattle.machine.specs.Desk.{Desk, Look, Survey, fine, surveyed, passed, Turned, turned, putActed, Ready}
+use Rattle.machine.specs.Desk.{Desk, Look, Survey, surveyed, passed, Turned, turned, putActed, Ready}
 use Rattle.machine.specs.View.{most, viewMachine, viewParty}
 use Rattle.machine.proofs.Arrays.{at-map}
 use Rattle.machine.proofs.Desks.{deskOf, lookOf}
@@ -64,7 +63,7 @@ module _ (m : Machine) (pn : length (m .party) ≡ most) (qn : length (m .queue)
         at false e h = absurd (omega arith)
 
     pub more : (i : ℕ) (s : Survey) → i < bound → Surveyed width mm who f i s
-      → Surveyed width mm who f (i + 1) (surveyed width k (m .parties) who f i s (viewParty (getD (m .party) i noParty)) (viewQueue k (getD (m .queue) i noQueue)))
+        → Surveyed width mm who f (i + 1) (surveyed width k (m .parties) who f i s (viewParty (getD (m .party) i noParty)) (viewQueue k (getD (m .queue) i noQueue)))
     more i s h v =
         let r : (i < m .parties) × (m .parties ≤ most) = in-range i h in
         survey-more width mm who f i s k (viewParty (getD (m .party) i noParty)) (viewQueue k (getD (m .queue) i noQueue)) v
@@ -78,10 +77,10 @@ module _ (m : Machine) (pn : length (m .party) ≡ most) (qn : length (m .queue)
 
       abbrev desk : Desk
       desk = record {
-          party = viewParty (getD (m .party) x noParty);
-          own = viewQueue k (getD (m .queue) x noQueue);
-          source = viewQueue k (getD (m .queue) y noQueue)
-        }
+        party = viewParty (getD (m .party) x noParty);
+        own = viewQueue k (getD (m .queue) x noQueue);
+        source = viewQueue k (getD (m .queue) y noQueue);
+      }
 
       x-in : x < most
       x-in = rw x-is (mod-lt who (omega arith))
@@ -106,8 +105,10 @@ module _ (m : Machine) (pn : length (m .party) ≡ most) (qn : length (m .queue)
         where
           here : Sound width most mm (length xs) → bound ≡ m .parties
           here facts = bound-is ∙ pick-yes (leb (m .parties) most) (m .parties) 0 (le-leb (m .parties) most (facts .few))
+
           at-who : Sound width most mm (length xs) → x ≡ who
           at-who facts = x-is ∙ mod-eq-of-lt (omega (arith, facts .few))
+
           source-below : Sound width most mm (length xs) → f < m .parties
           source-below facts = rw (source-is, at-who facts) (facts .placed who h .source)
 

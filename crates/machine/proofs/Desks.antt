@@ -1,29 +1,27 @@
 -- A step on the desk is the machine's step: the desk put back into the record.
-use Prim.Native.Nat.{ℕ, zero, suc, _+_, _≤_, _<_}
-use mathlib.Core.Path.{_≡_, refl, sym, ap, ap₂, subst, fun-ext, _∙_}
+use Prim.Native.Nat.{ℕ, zero, suc, _<_}
+use mathlib.Core.Path.{_≡_, refl, sym, ap, ap₂, fun-ext, _∙_}
 use mathlib.Core.Bool.{Bool, true, false, not, true≢false}
-use mathlib.Core.List.{List, []}
+use mathlib.Core.List.{List}
 use mathlib.Core.Logic.{_≢_, ⊎-elim}
-use native.Mathlib.Omega.{arith}
 use borrow.Author.Tests.{eqb-true, eqb-false}
 use lib.Dec.{eqb}
 use lib.ListN.{length, length-set, getD, set}
 use lib.Seq.{getD-set-same, getD-set-other, set-getD, set-set, set-comm}
 use Rattle.words.specs.Word.{pick, orb}
-use Rattle.tables.specs.Rule.{Kind, lifo, Mark, plain}
+use Rattle.tables.specs.Rule.{lifo, Mark, plain}
 use Rattle.tables.specs.Place.{Place}
 use Rattle.tables.specs.Machine.{Queue, Party, Machine, idleParty, zeroQueue, partyAt, queueAt, baseOf, stretch, restretched}
 use Rattle.tables.specs.Access.{Seen, perform}
 use Rattle.tables.specs.Answer.{isPending}
-use Rattle.tables.specs.Effect.{Effect}
 use Rattle.tables.specs.Row.{Sight, Next, Row, Whose, mine, theirs}
 use Rattle.tables.specs.Tables.{rowOf, sourceOf, isIdle, wishOf, wishes}
-use Rattle.tables.specs.Step.{Outcome, Alone, kindAt, placeAt, sourceAt, sightOf, rowAt, site, siteAt, isWeak, accessAt, nextAt, effectOf, stored, taken, noted, stops, onward, runs}
-use Rattle.tables.proofs.Bases.{capacityAt, base-same}
+use Rattle.tables.specs.Step.{Outcome, Alone, kindAt, placeAt, sourceAt, sightOf, site, isWeak, effectOf, stored, taken, stops, onward, runs}
+use Rattle.tables.proofs.Bases.{base-same}
 use Rattle.tables.proofs.Access.{perform-keeps}
 use Rattle.tables.proofs.Bools.{neither, set-keeps}
 use Rattle.tables.proofs.Places.{next-source, next-over}
-use Rattle.machine.specs.Desk.{Desk, Look, putBack, deskSight, deskRow, away, queueFor, baseFor, deskWith, Reach, reach, reaches, Did, deskStep, deskEffect, Ran, ranOn, ranStops, deskRuns}
+use Rattle.machine.specs.Desk.{Desk, Look, putBack, deskSight, deskRow, away, queueFor, baseFor, deskWith, reach, reaches, Did, deskStep, deskEffect, Ran, ranOn, ranStops, deskRuns}
 
 not-false : (b : Bool) → not b ≡ false → b ≡ true
 not-false true e = refl
@@ -38,10 +36,10 @@ lookOf m who f = record { same = eqb f who; own = baseOf who (m .queue); source 
 -- as it was: the record itself
 pub put-same : (m : Machine) (who f : ℕ) → putBack m who f (deskOf m who f) ≡ m
 put-same m who f = λ i. record {
-    parties = m .parties;
-    party = set-getD (m .party) who idleParty i;
-    queue = (ap (λ (l : List Queue). set l who (queueAt m who)) (set-getD (m .queue) f (zeroQueue lifo)) ∙ set-getD (m .queue) who (zeroQueue lifo)) i
-  }
+  parties = m .parties;
+  party = set-getD (m .party) who idleParty i;
+  queue = (ap (λ (l : List Queue). set l who (queueAt m who)) (set-getD (m .queue) f (zeroQueue lifo)) ∙ set-getD (m .queue) who (zeroQueue lifo)) i;
+}
 
 -- a desk whose party and queues have their places in the record, capacities and kinds as they were
 pub record Seated (m : Machine) (who f : ℕ) (d : Desk) : Type 0 where
@@ -92,12 +90,12 @@ module _ (m : Machine) (who f : ℕ) (d : Desk) (s : Seated m who f d) where
 
   sight-is : sourceOf who (d .party .place) ≡ f → (k : Mark) → sightOf m′ who k ≡ deskSight d k
   sight-is h k = λ i. record {
-      kind = own-is i .kind;
-      capacity = own-is i .capacity;
-      from = (ap (kindAt m′) (from-is h) ∙ kind-is f ∙ sym (s .source-kind)) i;
-      drain = party-is i .drain;
-      mark = k
-    }
+    kind = own-is i .kind;
+    capacity = own-is i .capacity;
+    from = (ap (kindAt m′) (from-is h) ∙ kind-is f ∙ sym (s .source-kind)) i;
+    drain = party-is i .drain;
+    mark = k;
+  }
 
   -- ---- the queue that a row reaches, by whose it is and whether the source is the own queue
 
@@ -120,7 +118,7 @@ module _ (m : Machine) (who f : ℕ) (d : Desk) (s : Seated m who f d) where
   site-name theirs false e = refl
 
   queues-put : (v : Whose) (b : Bool) → eqb f who ≡ b → (q : Queue)
-    → set (m′ .queue) (site v who f) q ≡ set (set (m .queue) f (pick (away v b) q (d .source))) who (pick (away v b) (d .own) q)
+      → set (m′ .queue) (site v who f) q ≡ set (set (m .queue) f (pick (away v b) q (d .source))) who (pick (away v b) (d .own) q)
   queues-put mine b e q = set-set (set (m .queue) f (d .source)) who (d .own) q
   queues-put theirs true e q =
       ap (λ (n : ℕ). set (m′ .queue) n q) (eqb-true f who e) ∙ set-set (set (m .queue) f (d .source)) who (d .own) q
@@ -128,12 +126,12 @@ module _ (m : Machine) (who f : ℕ) (d : Desk) (s : Seated m who f d) where
       set-comm (set (m .queue) f (d .source)) who f (d .own) q (not-who e) ∙ ap (λ (l : List Queue). set l who (d .own)) (set-set (m .queue) f (d .source) q)
 
   site-stored : (v : Whose) (b : Bool) → eqb f who ≡ b → (n : Next) (q : Queue)
-    → stored m′ who (site v who f) n q ≡ putBack m who f (deskWith (away v b) d q n)
+      → stored m′ who (site v who f) n q ≡ putBack m who f (deskWith (away v b) d q n)
   site-stored v b e n q = λ i. record {
-      parties = m .parties;
-      party = set-set (m .party) who (d .party) (record { place = n .place; drain = n .drain }) i;
-      queue = queues-put v b e q i
-    }
+    parties = m .parties;
+    party = set-set (m .party) who (d .party) (record { place = n .place; drain = n .drain }) i;
+    queue = queues-put v b e q i;
+  }
 
   -- ---- a step
 
@@ -146,17 +144,17 @@ module _ (m : Machine) (who f : ℕ) (d : Desk) (s : Seated m who f d) where
         items = restretched base (q .capacity) (a .slots) xs;
         answer = r .after (a .seen) .answer;
         effect = effectOf who name source (r .after (a .seen) .deed);
-        refusal = 0
+        refusal = 0;
       }
 
   abbrev pub outcomeOf : Did → Outcome
   outcomeOf o = record {
-      machine = putBack m who f (o .desk);
-      items = o .items;
-      answer = o .answer;
-      effect = deskEffect who f o;
-      refusal = 0
-    }
+    machine = putBack m who f (o .desk);
+    items = o .items;
+    answer = o .answer;
+    effect = deskEffect who f o;
+    refusal = 0;
+  }
 
   at-row : List ℕ → Mark → Row → (source : ℕ) → Outcome
   at-row xs k r source =
@@ -164,14 +162,16 @@ module _ (m : Machine) (who f : ℕ) (d : Desk) (s : Seated m who f d) where
       (stored m′ who (site (r .whose) who source)) (site (r .whose) who source)
 
   pub turn-is : sourceOf who (d .party .place) ≡ f → (w : ℕ) (xs : List ℕ) (k : Mark)
-    → taken w m′ xs who k ≡ outcomeOf (deskStep w (lookOf m who f) d xs k)
+      → taken w m′ xs who k ≡ outcomeOf (deskStep w (lookOf m who f) d xs k)
   unfolding taken deskStep by at-row
   turn-is h w xs k = ap₂ (at-row xs k) (ap₂ (rowOf w) (sight-is h k) place-is) (from-is h) ∙ reached
     where
       r : Row
       r = deskRow w d k
+
       b : Bool
       b = eqb f who
+
       reached : at-row xs k r f ≡ outcomeOf (deskStep w (lookOf m who f) d xs k)
       reached = λ i.
           by xs k r f (site-queue (r .whose) b refl i) (site-base (r .whose) b refl i)
@@ -180,28 +180,28 @@ module _ (m : Machine) (who f : ℕ) (d : Desk) (s : Seated m who f d) where
 -- ---- the desk after a step has its places still
 
 seated-with : {m : Machine} {who f : ℕ} {d : Desk} → Seated m who f d → (a : Bool) (q : Queue) (n : Next) → q .capacity ≡ queueFor a d .capacity
-  → q .kind ≡ queueFor a d .kind → Seated m who f (deskWith a d q n)
+    → q .kind ≡ queueFor a d .kind → Seated m who f (deskWith a d q n)
 seated-with s true q n ec ek = record {
-    party-in = s .party-in;
-    own-in = s .own-in;
-    source-in = s .source-in;
-    own-capacity = s .own-capacity;
-    source-capacity = ec ∙ s .source-capacity;
-    own-kind = s .own-kind;
-    source-kind = ek ∙ s .source-kind
-  }
+  party-in = s .party-in;
+  own-in = s .own-in;
+  source-in = s .source-in;
+  own-capacity = s .own-capacity;
+  source-capacity = ec ∙ s .source-capacity;
+  own-kind = s .own-kind;
+  source-kind = ek ∙ s .source-kind;
+}
 seated-with s false q n ec ek = record {
-    party-in = s .party-in;
-    own-in = s .own-in;
-    source-in = s .source-in;
-    own-capacity = ec ∙ s .own-capacity;
-    source-capacity = s .source-capacity;
-    own-kind = ek ∙ s .own-kind;
-    source-kind = s .source-kind
-  }
+  party-in = s .party-in;
+  own-in = s .own-in;
+  source-in = s .source-in;
+  own-capacity = ec ∙ s .own-capacity;
+  source-capacity = s .source-capacity;
+  own-kind = ek ∙ s .own-kind;
+  source-kind = s .source-kind;
+}
 
 seated-on : {m : Machine} {who f : ℕ} {d : Desk} → Seated m who f d → (w : ℕ) (l : Look) (xs : List ℕ) (k : Mark)
-  → Seated m who f (deskStep w l d xs k .desk)
+    → Seated m who f (deskStep w l d xs k .desk)
 unfolding deskStep
 seated-on {d = d} s w l xs k =
     let r = reach w l d k in
@@ -214,13 +214,13 @@ seated-on {d = d} s w l xs k =
 module _ (m : Machine) (who f : ℕ) where
   abbrev pub aloneOf : Ran → Alone
   aloneOf x = record {
-      machine = putBack m who f (x .desk);
-      items = x .items;
-      answer = x .answer;
-      effects = x .effects;
-      steps = x .steps;
-      refusal = 0
-    }
+    machine = putBack m who f (x .desk);
+    items = x .items;
+    answer = x .answer;
+    effects = x .effects;
+    steps = x .steps;
+    refusal = 0;
+  }
 
   -- until it answers, the call is under way and has its source
   pub record Going (x : Ran) : Type 0 where
@@ -237,14 +237,19 @@ module _ (m : Machine) (who f : ℕ) where
       where
         place : Place
         place = x .desk .party .place
+
         sight : Sight
         sight = deskSight (x .desk) plain
+
         seen : Seen
         seen = reaches (reach w (lookOf m who f) (x .desk) plain) (x .items) plain .seen
+
         before : (isIdle place ≡ false) × (sourceOf who place ≡ f)
         before = g .on-way (not-false (isPending (x .answer)) (neither (not (isPending (x .answer))) (wishes (wishOf place)) h .0))
+
         still : isPending (rowOf w sight place .after seen .answer) ≡ true → isIdle (rowOf w sight place .after seen .place) ≡ false
         still p = next-over w who sight place seen (before .0) ∙ ap not p
+
         same : isPending (rowOf w sight place .after seen .answer) ≡ true → sourceOf who (rowOf w sight place .after seen .place) ≡ f
         same p = ⊎-elim (λ i. absurd (true≢false (sym i ∙ still p))) (λ e. e ∙ before .1) (next-source w who sight place seen)
 
@@ -255,10 +260,11 @@ module _ (m : Machine) (who f : ℕ) where
       where
         stops-is : stops who (aloneOf x) ≡ ranStops x
         stops-is = ap (λ (p : Place). orb (not (isPending (x .answer))) (wishes (wishOf p))) (place-is m who f (x .desk) (g .seated))
+
         at : (b : Bool) → ranStops x ≡ b
-          → (ranStops x ≡ false → runs w who n (aloneOf (ranOn who f x (did x))) ≡ aloneOf (deskRuns w (lookOf m who f) who f n (ranOn who f x (did x))))
-          → pick (stops who (aloneOf x)) (aloneOf x) (runs w who n (onward (aloneOf x) (taken w (putBack m who f (x .desk)) (x .items) who plain)))
-          ≡ aloneOf (pick (ranStops x) x (deskRuns w (lookOf m who f) who f n (ranOn who f x (did x))))
+            → (ranStops x ≡ false → runs w who n (aloneOf (ranOn who f x (did x))) ≡ aloneOf (deskRuns w (lookOf m who f) who f n (ranOn who f x (did x))))
+            → pick (stops who (aloneOf x)) (aloneOf x) (runs w who n (onward (aloneOf x) (taken w (putBack m who f (x .desk)) (x .items) who plain)))
+            ≡ aloneOf (pick (ranStops x) x (deskRuns w (lookOf m who f) who f n (ranOn who f x (did x))))
         at true e more = rw (stops-is, e)
         at false e more =
             rw (stops-is, e) (ap (λ (o : Outcome). runs w who n (onward (aloneOf x) o))

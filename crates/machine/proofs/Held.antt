@@ -1,7 +1,6 @@
 -- What whoever holds a machine knows of it: its tables have as many places as their type says.
-use Prim.Native.Nat.{ℕ}
 use mathlib.Core.Path.{_≡_, sym, _∙_}
-use mathlib.Core.List.{[], _∷_, map}
+use mathlib.Core.List.{[], _∷_}
 use lib.ListN.{length, length-map}
 use denote.Laws.{Is}
 use denote.Struct.Laws as LL

@@ -8,3 +8,4 @@ pub mod Surveys
 pub mod Held
 pub mod Applied
 pub mod Opens
+pub mod One

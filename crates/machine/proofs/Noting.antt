@@ -4,11 +4,10 @@ use mathlib.Core.Path.{_≡_, refl}
 use mathlib.Core.Bool.{Bool, true, false}
 use mathlib.Core.List.{List, [], _∷_}
 use native.Mathlib.Omega.{arith}
-use lib.Dec.{ltb}
 use lib.ListN.{length}
 use Rattle.words.specs.Word.{pick}
 use Rattle.tables.specs.Effect.{Effect, isNothing, drops}
-use Rattle.tables.specs.Step.{andb, noEffect, appended, noted}
+use Rattle.tables.specs.Step.{noEffect, appended, noted}
 use Rattle.tables.proofs.Bools.{pick-if}
 use Rattle.tables.proofs.Effects.{DropsMost}
 use Rattle.machine.specs.Act.{Effects, threeEffects}
@@ -27,22 +26,22 @@ unfolding appended
 note-is l e h = at (isNothing (e .deed)) l h
   where
     one : (j : Bool) (x : Effect)
-      → pick j (of 1 (merged x e) noEffect noEffect) (of 2 x e noEffect) ≡ threeEffects (pick j (merged x e ∷ []) (x ∷ e ∷ []))
+        → pick j (of 1 (merged x e) noEffect noEffect) (of 2 x e noEffect) ≡ threeEffects (pick j (merged x e ∷ []) (x ∷ e ∷ []))
     one true x = refl
     one false x = refl
 
     two : (j : Bool) (x y : Effect)
-      → pick j (of 2 x (merged y e) noEffect) (of 3 x y e) ≡ threeEffects (x ∷ pick j (merged y e ∷ []) (y ∷ e ∷ []))
+        → pick j (of 2 x (merged y e) noEffect) (of 3 x y e) ≡ threeEffects (x ∷ pick j (merged y e ∷ []) (y ∷ e ∷ []))
     two true x y = refl
     two false x y = refl
 
     three : (j : Bool) (x y z : Effect) → length (x ∷ y ∷ pick j (merged z e ∷ []) (z ∷ e ∷ [])) ≤ 3
-      → pick j (of 3 x y (merged z e)) (of 3 x y z) ≡ threeEffects (x ∷ y ∷ pick j (merged z e ∷ []) (z ∷ e ∷ []))
+        → pick j (of 3 x y (merged z e)) (of 3 x y z) ≡ threeEffects (x ∷ y ∷ pick j (merged z e ∷ []) (z ∷ e ∷ []))
     three true x y z h = refl
     three false x y z h = absurd (omega arith)
 
     at : (b : Bool) (l : List Effect) → length (pick b l (appended l e)) ≤ 3
-      → pick b (threeEffects l) (noteSome (threeEffects l) e) ≡ threeEffects (pick b l (appended l e))
+        → pick b (threeEffects l) (noteSome (threeEffects l) e) ≡ threeEffects (pick b l (appended l e))
     at true l h = refl
     at false [] h = refl
     at false (x ∷ []) h = one (joins x e) x

@@ -30,7 +30,7 @@ unfolding overTo
 over-none w rs = refl
 
 pub over-more : (w : ℕ) (rs : List ℕ) (i : ℕ) {found more : Bool} → found ≡ overTo w rs i → more ≡ orb found (ltb (2 ^ (w - 1)) (getD rs i 0))
-  → more ≡ overTo w rs (i + 1)
+    → more ≡ overTo w rs (i + 1)
 unfolding overTo
 over-more w rs i ef em = rw add-one (em ∙ ap (λ (b : Bool). orb b (ltb (2 ^ (w - 1)) (getD rs i 0))) ef)
 
@@ -66,12 +66,12 @@ module _ (out : Machine) (kind : D.Kind) (same : out .kind ≡ kind) {l : List Q
   parties-are = ap (λ (m : M.Machine). m .party) is
 
   pub fill-more : (i : ℕ) (q : D′.Queue) {x : Queue} → viewQueue (viewKind kind) q ≡ x
-    → _≡_ {A = M.Machine} (record { parties = out .parties; party = map viewParty (out .party); queue = map (viewQueue (viewKind (out .kind))) (set (out .queue) i q) }) (tables most 0 (set l i x))
+      → _≡_ {A = M.Machine} (record { parties = out .parties; party = map viewParty (out .party); queue = map (viewQueue (viewKind (out .kind))) (set (out .queue) i q) }) (tables most 0 (set l i x))
   fill-more i q e = λ j. record {
-      parties = is j .parties;
-      party = parties-are j;
-      queue = (map-set (viewQueue (viewKind (out .kind))) (out .queue) i q ∙ ap₂ (λ (k : List Queue) (y : Queue). set k i y) queues-are (ap (λ (k : D.Kind). viewQueue (viewKind k) q) same ∙ e)) j
-    }
+    parties = is j .parties;
+    party = parties-are j;
+    queue = (map-set (viewQueue (viewKind (out .kind))) (out .queue) i q ∙ ap₂ (λ (k : List Queue) (y : Queue). set k i y) queues-are (ap (λ (k : D.Kind). viewQueue (viewKind k) q) same ∙ e)) j;
+  }
 
   pub fill-ends : (n : ℕ) → _≡_ {A = M.Machine} (record { parties = n; party = map viewParty (out .party); queue = map (viewQueue (viewKind (out .kind))) (out .queue) }) (tables most n l)
   fill-ends n = λ j. record { parties = n; party = parties-are j; queue = queues-are j }
@@ -93,30 +93,31 @@ module _ (kind : D.Kind) (rs ps : List ℕ) (n : ℕ) (few : n ≤ most) where
   filling-start out e is = record { within = omega arith; same = e; is = is; sum = refl; small = omega arith }
 
   pub filling-more : (i : ℕ) (out : Machine) (total : ℕ) (q : D′.Queue) → i < n → q .capacity < 4294967296 → viewQueue (viewKind kind) q ≡ openQueue width (viewKind kind) (getD rs i 0) (getD ps i 0)
-    → Filling kind rs ps n i out total
-    → Filling kind rs ps n (i + 1) (record { kind = out .kind; parties = out .parties; party = out .party; queue = set (out .queue) i q }) (total + q .capacity)
+      → Filling kind rs ps n i out total
+      → Filling kind rs ps n (i + 1) (record { kind = out .kind; parties = out .parties; party = out .party; queue = set (out .queue) i q }) (total + q .capacity)
   filling-more i out total q h c e f = record {
-      within = omega arith;
-      same = f .same;
-      is = rw (open-more width ks rs ps (closedQueues most ks) i) (fill-more out kind (f .same) (f .is) i q here);
-      sum = rw (open-more width ks rs ps (closedQueues most ks) i)
+    within = omega arith;
+    same = f .same;
+    is = rw (open-more width ks rs ps (closedQueues most ks) i) (fill-more out kind (f .same) (f .is) i q here);
+    sum = rw (open-more width ks rs ps (closedQueues most ks) i)
         (ap₂ (λ (a b : ℕ). a + b) (f .sum) (ap (λ (x : Queue). x .capacity) here)
         ∙ sym (base-next-set i (openTo width ks rs ps i (closedQueues most ks)) (openQueue width (getD ks i lifo) (getD rs i 0) (getD ps i 0))
         (rw (open-length width ks rs ps i (closedQueues most ks), closed-length most ks) (omega arith))));
-      small = omega (arith, f .small)
-    }
+    small = omega (arith, f .small);
+  }
     where
       here : viewQueue (viewKind kind) q ≡ openQueue width (getD ks i lifo) (getD rs i 0) (getD ps i 0)
       here = e ∙ ap (λ (k : Kind). openQueue width k (getD rs i 0) (getD ps i 0)) (sym (every-at most (viewKind kind) i (omega arith)))
 
 pub filling-ends : {kind : D.Kind} {rs ps : List ℕ} {n i : ℕ} {out : Machine} {total : ℕ} → Filling kind rs ps n i out total → n ≤ i
-  → (_≡_ {A = M.Machine} (record { parties = n; party = map viewParty (out .party); queue = map (viewQueue (viewKind (out .kind))) (out .queue) })
-      (tables most n (openQueues width most (everyKind most (viewKind kind)) n rs ps)))
+    → (_≡_ {A = M.Machine} (record { parties = n; party = map viewParty (out .party); queue = map (viewQueue (viewKind (out .kind))) (out .queue) })
+    (tables most n (openQueues width most (everyKind most (viewKind kind)) n rs ps)))
     × (total ≡ baseOf n (openQueues width most (everyKind most (viewKind kind)) n rs ps))
 filling-ends {kind} {rs} {ps} {n} {i} {out} f h =
-    let e : i ≡ n = omega (arith, f .within) in
-    (fill-ends out kind (f .same) (f .is) n ∙ ap (λ (j : ℕ). tables most n (openQueues width most (everyKind most (viewKind kind)) j rs ps)) e,
-      f .sum ∙ ap (λ (j : ℕ). baseOf j (openQueues width most (everyKind most (viewKind kind)) j rs ps)) e)
+    let e : i ≡ n = omega (arith, f .within) in (
+      fill-ends out kind (f .same) (f .is) n ∙ ap (λ (j : ℕ). tables most n (openQueues width most (everyKind most (viewKind kind)) j rs ps)) e,
+      f .sum ∙ ap (λ (j : ℕ). baseOf j (openQueues width most (everyKind most (viewKind kind)) j rs ps)) e,
+    )
 
 -- ---- the refusals, test by test
 
@@ -153,23 +154,23 @@ module _ (w most′ : ℕ) (ks : List Kind) (n : ℕ) (rs ps : List ℕ) (lent :
     none-refusal e h = simp (lt-ltb 0 n some, le-leb n most′ few, e, le-leb sums lent h)
 
   pub opened-refused : {m : M.Machine} {c : ℕ} → m ≡ tables most′ 0 (closedQueues most′ ks) → c ≡ code → 0 < c
-    → _≡_ {A = Opened} (record { machine = m; refusal = c }) (opening w most′ ks n rs ps lent)
+      → _≡_ {A = Opened} (record { machine = m; refusal = c }) (opening w most′ ks n rs ps lent)
   unfolding opening
   opened-refused {c = c} em ec h =
       (λ i. record { machine = em i; refusal = ec i }) ∙ sym (pick-no (eqb code 0) _ _ (ne-eqb code 0 (λ e. let z : c ≡ 0 = ec ∙ e in omega arith)))
 
   pub opened-taken : {m : M.Machine} → m ≡ tables most′ n (openQueues w most′ ks n rs ps) → 0 ≡ code
-    → _≡_ {A = Opened} (record { machine = m; refusal = 0 }) (opening w most′ ks n rs ps lent)
+      → _≡_ {A = Opened} (record { machine = m; refusal = 0 }) (opening w most′ ks n rs ps lent)
   unfolding opening
   opened-taken em ec = (λ i. record { machine = em i; refusal = 0 }) ∙ sym (pick-yes (eqb code 0) _ _ (eq-eqb code 0 (sym ec)))
 
 -- the same by the kind that the blank machine has
 pub filled-as : (rs ps : List ℕ) {k kind : D.Kind} {n total : ℕ} {m : M.Machine} → k ≡ kind
-  → (m ≡ tables most n (openQueues width most (everyKind most (viewKind k)) n rs ps)) × (total ≡ baseOf n (openQueues width most (everyKind most (viewKind k)) n rs ps))
-  → (m ≡ tables most n (openQueues width most (everyKind most (viewKind kind)) n rs ps)) × (total ≡ baseOf n (openQueues width most (everyKind most (viewKind kind)) n rs ps))
+    → (m ≡ tables most n (openQueues width most (everyKind most (viewKind k)) n rs ps)) × (total ≡ baseOf n (openQueues width most (everyKind most (viewKind k)) n rs ps))
+    → (m ≡ tables most n (openQueues width most (everyKind most (viewKind kind)) n rs ps)) × (total ≡ baseOf n (openQueues width most (everyKind most (viewKind kind)) n rs ps))
 filled-as rs ps {n = n} {total} {m} e h =
     subst (λ (x : D.Kind). (m ≡ tables most n (openQueues width most (everyKind most (viewKind x)) n rs ps)) × (total ≡ baseOf n (openQueues width most (everyKind most (viewKind x)) n rs ps))) e h
 
 pub blank-as : {k kind : D.Kind} {m : M.Machine} → k ≡ kind → m ≡ tables most 0 (closedQueues most (everyKind most (viewKind kind)))
-  → m ≡ tables most 0 (closedQueues most (everyKind most (viewKind k)))
+    → m ≡ tables most 0 (closedQueues most (everyKind most (viewKind k)))
 blank-as {m = m} e h = subst (λ (x : D.Kind). m ≡ tables most 0 (closedQueues most (everyKind most (viewKind x)))) (sym e) h

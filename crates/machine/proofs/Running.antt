@@ -3,12 +3,12 @@ use Prim.Native.Nat.{ℕ, zero, suc, _+_, _-_, _^_, _≤_, _<_}
 use mathlib.Core.Path.{_≡_, refl, sym, ap, subst, _∙_}
 use mathlib.Core.Bool.{Bool, true, false, not}
 use mathlib.Core.List.{List, []}
-use native.Mathlib.Nat.{sub-zero, sub-self}
+use native.Mathlib.Nat.{sub-zero}
 use native.Mathlib.Omega.{arith}
 use borrow.Author.Tests.{ltb-true, eq-eqb, ne-eqb}
 use lib.Dec.{ltb, eqb}
 use lib.ListN.{length}
-use Rattle.words.specs.Word.{pick, orb, Pow}
+use Rattle.words.specs.Word.{pick, Pow}
 use Rattle.tables.specs.Rule.{Mark, plain}
 use Rattle.tables.specs.Place.{Place}
 use Rattle.tables.specs.Access.{Seen}
@@ -17,7 +17,7 @@ use Rattle.tables.specs.Answer.{isPending}
 use Rattle.tables.specs.Effect.{Effect, isNothing, drops}
 use Rattle.tables.specs.Row.{Sight, Next}
 use Rattle.tables.specs.Tables.{rowOf, wishOf, wishes}
-use Rattle.tables.specs.Step.{effectOf, isWeak, appended, noted}
+use Rattle.tables.specs.Step.{isWeak, appended, noted}
 use Rattle.tables.proofs.Access.{Kept, perform-keeps}
 use Rattle.tables.proofs.Bases.{stretch-length, restretched-length}
 use Rattle.tables.proofs.Bools.{neither, pick-if, pick-yes, pick-no}
@@ -32,19 +32,19 @@ use Rattle.machine.proofs.Noting.{note-is, roomy-of}
 -- ---- one step keeps what the desk asks for
 
 ready-with : {l : Look} {d : Desk} {lent : ℕ} → Ready l d lent → (a : Bool) (q : Queue) (n : Next) → q .capacity ≡ queueFor a d .capacity
-  → Ready l (deskWith a d q n) lent
+    → Ready l (deskWith a d q n) lent
 ready-with y true q n e = record {
-    own-power = y .own-power;
-    source-power = subst Pow (sym e) (y .source-power);
-    own-fits = y .own-fits;
-    source-fits = omega (arith, e, y .source-fits)
-  }
+  own-power = y .own-power;
+  source-power = subst Pow (sym e) (y .source-power);
+  own-fits = y .own-fits;
+  source-fits = omega (arith, e, y .source-fits);
+}
 ready-with y false q n e = record {
-    own-power = subst Pow (sym e) (y .own-power);
-    source-power = y .source-power;
-    own-fits = omega (arith, e, y .own-fits);
-    source-fits = y .source-fits
-  }
+  own-power = subst Pow (sym e) (y .own-power);
+  source-power = y .source-power;
+  own-fits = omega (arith, e, y .own-fits);
+  source-fits = y .source-fits;
+}
 
 module _ (w : ℕ) (l : Look) (d : Desk) (xs : List ℕ) (k : Mark) (y : Ready l d (length xs)) where
   abbrev r : Reach
@@ -84,17 +84,17 @@ module _ (w : ℕ) (l : Look) (who f budget : ℕ) (start : Ran) where
     pub same : deskRuns w l who f (budget - r .steps) (ranOf r list) ≡ deskRuns w l who f budget start
 
 pub running-start : (w : ℕ) (l : Look) (who f budget : ℕ) (d : Desk) (xs : List ℕ) → Ready l d (length xs)
-  → Running w l who f budget (ranNone d xs) (length xs) (loneOf (ranNone d xs))
+    → Running w l who f budget (ranNone d xs) (length xs) (loneOf (ranNone d xs))
 running-start w l who f budget d xs y = record {
-    list = [];
-    shown = refl;
-    few = few-at-none (d .party .place);
-    counts = tt;
-    ready = y;
-    length-is = refl;
-    within = omega arith;
-    same = ap (λ (n : ℕ). deskRuns w l who f n (ranNone d xs)) (sub-zero budget)
-  }
+  list = [];
+  shown = refl;
+  few = few-at-none (d .party .place);
+  counts = tt;
+  ready = y;
+  length-is = refl;
+  within = omega arith;
+  same = ap (λ (n : ℕ). deskRuns w l who f n (ranNone d xs)) (sub-zero budget);
+}
 
 module _ (w : ℕ) (l : Look) (who f : ℕ) (x : Ran) where
   runs-none : (n : ℕ) → n ≡ 0 → deskRuns w l who f n x ≡ x
@@ -107,7 +107,7 @@ module _ (w : ℕ) (l : Look) (who f : ℕ) (x : Ran) where
   runs-stopped (suc n) h = pick-yes (ranStops x) x _ h
 
   runs-on : (n m : ℕ) → n ≡ suc m → ranStops x ≡ false
-    → deskRuns w l who f n x ≡ deskRuns w l who f m (ranOn who f x (deskStep w l (x .desk) (x .items) plain))
+      → deskRuns w l who f n x ≡ deskRuns w l who f m (ranOn who f x (deskStep w l (x .desk) (x .items) plain))
   unfolding deskRuns
   runs-on n m e h = rw e (pick-no (ranStops x) x _ h)
 
@@ -132,18 +132,18 @@ module _ {w : ℕ} {l : Look} {who f budget : ℕ} {start : Ran} {lent : ℕ} {r
 
   -- one step more
   pub running-on : r .steps < budget → ranStops now-at ≡ false
-    → Running w l who f budget start lent (loneOn who f r (deskStep w l (r .desk) (r .items) plain))
+      → Running w l who f budget start lent (loneOn who f r (deskStep w l (r .desk) (r .items) plain))
   unfolding deskStep
   running-on h stop = record {
-      list = noted (g .list) e;
-      shown = rw (g .shown) (note-is (g .list) e (omega (arith, fewer .count)));
-      few = fewer;
-      counts = most-noted (r .steps) (g .list) e (g .counts) (rw deed-is (drops-one w sight place seen));
-      ready = rw (g .length-is) at (desk-ready w l (r .desk) (r .items) plain here);
-      length-is = desk-length w l (r .desk) (r .items) plain here ∙ g .length-is;
-      within = omega arith;
-      same = sym (runs-on w l who f now-at (budget - r .steps) (budget - (r .steps + 1)) (omega arith) stop) ∙ g .same
-    }
+    list = noted (g .list) e;
+    shown = rw (g .shown) (note-is (g .list) e (omega (arith, fewer .count)));
+    few = fewer;
+    counts = most-noted (r .steps) (g .list) e (g .counts) (rw deed-is (drops-one w sight place seen));
+    ready = rw (g .length-is) at (desk-ready w l (r .desk) (r .items) plain here);
+    length-is = desk-length w l (r .desk) (r .items) plain here ∙ g .length-is;
+    within = omega arith;
+    same = sym (runs-on w l who f now-at (budget - r .steps) (budget - (r .steps + 1)) (omega arith) stop) ∙ g .same;
+  }
     where
       o : Did
       o = deskStep w l (r .desk) (r .items) plain
@@ -178,11 +178,11 @@ effect-drops w l who f d xs k =
     (drops-one w (deskSight d k) (d .party .place) (reaches (reach w l d k) xs k .seen))
 
 pub step-drops : (w : ℕ) (l : Look) (who f : ℕ) (d : Desk) (xs : List ℕ) (k : Mark) {o : Did} {e : Effect} → o ≡ deskStep w l d xs k → e ≡ deskEffect who f o
-  → drops (e .deed) ≤ 1
+    → drops (e .deed) ≤ 1
 step-drops w l who f d xs k eo ee = rw (ee, eo) (effect-drops w l who f d xs k)
 
 pub lone-on-is : (who f : ℕ) (r : Lone) (s : Did) {o : Did} {e : Effect} {es : Effects} → o ≡ s → e ≡ deskEffect who f o → es ≡ note (r .effects) e
-  → _≡_ {A = Lone} (record { desk = o .desk; items = o .items; answer = o .answer; effects = es; steps = r .steps + 1 }) (loneOn who f r s)
+    → _≡_ {A = Lone} (record { desk = o .desk; items = o .items; answer = o .answer; effects = es; steps = r .steps + 1 }) (loneOn who f r s)
 lone-on-is who f r s eo ee es = simp (es, ee, eo)
 
 -- ---- a code of 0
@@ -200,7 +200,7 @@ unfolding appended
 one-noted e = note-is [] e (pick-if (λ (l : List Effect). length l ≤ 3) (isNothing (e .deed)) (λ h. omega arith) (λ h. omega arith))
 
 pub did-is : (who f : ℕ) (s : Did) {o : Did} {e : Effect} {es : Effects} → o ≡ s → e ≡ deskEffect who f o → es ≡ note noEffects e
-  → _≡_ {A = Turned} (record { desk = o .desk; items = o .items; answer = o .answer; effects = es; steps = 0; refusal = 0 }) (ofDid who f s)
+    → _≡_ {A = Turned} (record { desk = o .desk; items = o .items; answer = o .answer; effects = es; steps = 0; refusal = 0 }) (ofDid who f s)
 did-is who f s {e = e} eo ee es = simp (es ∙ one-noted e, ee, eo)
 
 -- an act goes by its code
@@ -208,5 +208,5 @@ pub act-taken : (code′ : ℕ) (a : Turned) (r : ℕ → Turned) {code : ℕ} {
 act-taken code′ a r e z h = h ∙ sym (pick-yes (eqb code′ 0) a (r code′) (eq-eqb code′ 0 (sym e ∙ z)))
 
 pub act-refused : (code′ : ℕ) (a : Turned) (r : ℕ → Turned) {code : ℕ} {t : Turned} → code ≡ code′ → (code ≡ 0 → ⊥) → t ≡ r code
-  → t ≡ pick (eqb code′ 0) a (r code′)
+    → t ≡ pick (eqb code′ 0) a (r code′)
 act-refused code′ a r e z h = h ∙ ap r e ∙ sym (pick-no (eqb code′ 0) a (r code′) (ne-eqb code′ 0 (λ i. z (e ∙ i))))

@@ -1,6 +1,6 @@
 -- The record test party by party is the definition's.
-use Prim.Native.Nat.{ℕ, zero, suc, _+_, _≤_, _<_}
-use mathlib.Core.Path.{_≡_, refl, sym, ap, ap₂, subst, _∙_}
+use Prim.Native.Nat.{ℕ, _+_, _≤_, _<_}
+use mathlib.Core.Path.{_≡_, refl, sym, ap, ap₂, _∙_}
 use mathlib.Core.Bool.{Bool, true, false}
 use mathlib.Core.Logic.{⊎-elim}
 use native.Mathlib.Numerals.{add-one}
@@ -9,22 +9,21 @@ use borrow.Author.Tests.{eq-eqb, ne-eqb, ltb-true, leb-true}
 use lib.Dec.{ltb, leb, eqb}
 use Rattle.words.specs.Word.{pick, powBelow}
 use Rattle.tables.specs.Rule.{Kind}
-use Rattle.tables.specs.Place.{Place}
 use Rattle.tables.specs.Machine.{Queue, Party, Machine, partyAt, queueAt, baseOf}
 use Rattle.tables.specs.Tables.{sourceOf, hasPlace}
 use Rattle.tables.specs.Step.{andb, kindAt, placeAt, soundAt, soundTo, sound}
 use Rattle.tables.proofs.Bases.{base-more}
 use Rattle.tables.proofs.Bools.{equal-or-not, pick-if, pick-yes, pick-no}
-use Rattle.machine.specs.Desk.{Look, Survey, fine, surveyed, passed}
-use Rattle.machine.proofs.Desks.{lookOf}
+use Rattle.machine.specs.Desk.{Survey, fine, surveyed, passed}
 
 -- where all queues are of one kind, a place is read against that kind
 pub fine-is : (w : ℕ) (m : Machine) (k : Kind) → ((q : ℕ) → q < m .parties → kindAt m q ≡ k) → (i : ℕ) → i < m .parties
-  → soundAt w m i ≡ fine w k (m .parties) i (placeAt m i) (queueAt m i .capacity)
+    → soundAt w m i ≡ fine w k (m .parties) i (placeAt m i) (queueAt m i .capacity)
 fine-is w m k kinds i h = ap (andb (powBelow w (queueAt m i .capacity))) (at (ltb source (m .parties)) refl)
   where
     source : ℕ
     source = sourceOf i (placeAt m i)
+
     at : (b : Bool) → ltb source (m .parties) ≡ b → andb b (hasPlace (kindAt m i) (kindAt m source) (placeAt m i)) ≡ andb b (hasPlace k k (placeAt m i))
     at true e = ap₂ (λ (x y : Kind). hasPlace x y (placeAt m i)) (kinds i h) (kinds source (ltb-true source (m .parties) e))
     at false e = refl
@@ -47,24 +46,24 @@ noted-start l i j total old et eo h =
     (λ n. pick-no (eqb i j) total old (ne-eqb i j n) ∙ eo (omega arith)) (equal-or-not i j)
 
 pub survey-more : (w : ℕ) (m : Machine) (who f i : ℕ) (s : Survey) (k : Kind) (p : Party) (q : Queue) → Surveyed w m who f i s → p ≡ partyAt m i → q ≡ queueAt m i
-  → soundAt w m i ≡ fine w k (m .parties) i (placeAt m i) (queueAt m i .capacity)
-  → Surveyed w m who f (i + 1) (surveyed w k (m .parties) who f i s p q)
+    → soundAt w m i ≡ fine w k (m .parties) i (placeAt m i) (queueAt m i .capacity)
+    → Surveyed w m who f (i + 1) (surveyed w k (m .parties) who f i s p q)
 unfolding soundTo
 survey-more w m who f i s k p q v ep eq es = record {
-    sound-is = rw (add-one, ep, eq) (ap₂ andb (v .sound-is) (sym es));
-    total-is = rw (base-more, eq) (ap (λ (n : ℕ). n + queueAt m i .capacity) (v .total-is));
-    own-is = noted-start (λ (n : ℕ). baseOf n (m .queue)) i who (s .total) (s .own) (v .total-is) (v .own-is);
-    source-is = noted-start (λ (n : ℕ). baseOf n (m .queue)) i f (s .total) (s .source) (v .total-is) (v .source-is)
-  }
+  sound-is = rw (add-one, ep, eq) (ap₂ andb (v .sound-is) (sym es));
+  total-is = rw (base-more, eq) (ap (λ (n : ℕ). n + queueAt m i .capacity) (v .total-is));
+  own-is = noted-start (λ (n : ℕ). baseOf n (m .queue)) i who (s .total) (s .own) (v .total-is) (v .own-is);
+  source-is = noted-start (λ (n : ℕ). baseOf n (m .queue)) i f (s .total) (s .source) (v .total-is) (v .source-is);
+}
 
 -- the loop goes to the last party, where their number is in range
 pub passed-is : (w most : ℕ) (m : Machine) (who f bound lent : ℕ) (s : Survey) → bound ≡ pick (leb (m .parties) most) (m .parties) 0 → Surveyed w m who f bound s
-  → passed most (m .parties) lent s ≡ sound w most m lent
+    → passed most (m .parties) lent s ≡ sound w most m lent
 unfolding sound
 passed-is w most m who f bound lent s eb v = ap (andb (ltb 0 (m .parties))) (at (leb (m .parties) most) refl)
   where
     at : (b : Bool) → leb (m .parties) most ≡ b
-      → andb b (andb (s .sound) (leb (s .total) lent)) ≡ andb b (andb (soundTo w m (m .parties)) (leb (baseOf (m .parties) (m .queue)) lent))
+        → andb b (andb (s .sound) (leb (s .total) lent)) ≡ andb b (andb (soundTo w m (m .parties)) (leb (baseOf (m .parties) (m .queue)) lent))
     at false e = refl
     at true e =
         let here : bound ≡ m .parties = eb ∙ pick-yes (leb (m .parties) most) (m .parties) 0 e in

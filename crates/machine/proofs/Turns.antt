@@ -3,7 +3,7 @@ use Prim.Native.Nat.{ℕ, _+_, _-_, _≤_}
 use mathlib.Core.Path.{_≡_, refl, sym, ap, subst, _∙_}
 use mathlib.Core.Bool.{Bool, true, false}
 use mathlib.Core.List.{List, _++_}
-use lib.ListN.{length, take, drop}
+use lib.ListN.{take}
 use native.Mathlib.Omega.{arith}
 use lib.Seq.{drop-drop}
 use borrow.Rule.Slice.PartMut.{putMid}
@@ -14,13 +14,12 @@ use Rattle.tables.specs.Access.{Accessed, perform}
 use Rattle.tables.specs.Row.{Sight}
 use Rattle.tables.specs.Tables.{rowOf}
 use Rattle.tables.specs.Step.{isWeak}
-use Rattle.tables.proofs.Bools.{pick-if}
 use Rattle.queue.specs.View.{Want, wantOf}
-use Rattle.machine.specs.Desk.{Desk, Look, deskSight, away, queueFor, baseFor, Reach, reach, reaches, Did, went, steps, deskStep, Ready}
+use Rattle.machine.specs.Desk.{Desk, Look, deskSight, away, queueFor, baseFor, Reach, reach, Did, went, deskStep, Ready}
 
 pub reach-is : (w : ℕ) (l : Look) (d : Desk) (k : Mark) {s : Sight} {want : Want} {a : Bool} {q : Queue} {base : ℕ}
-  → s ≡ deskSight d k → want ≡ wantOf (rowOf w s (d .party .place)) → a ≡ away (want .whose) (l .same) → q ≡ queueFor a d → base ≡ baseFor a l
-  → _≡_ {A = Reach} (record { sight = s; access = want .access; away = a; queue = q; base = base }) (reach w l d k)
+    → s ≡ deskSight d k → want ≡ wantOf (rowOf w s (d .party .place)) → a ≡ away (want .whose) (l .same) → q ≡ queueFor a d → base ≡ baseFor a l
+    → _≡_ {A = Reach} (record { sight = s; access = want .access; away = a; queue = q; base = base }) (reach w l d k)
 reach-is w l d k es ew ea eq eb = simp (eb, eq, ea, ew, es)
 
 -- the reached queue's stretch lies within the items
@@ -40,8 +39,8 @@ put-is xs base n ys = ap (λ (zs : List ℕ). take base xs ++ (ys ++ zs)) (drop-
 
 -- n is the capacity as the code has it, the end of the stretch less its start
 pub one-is : (w : ℕ) (l : Look) (d : Desk) (xs : List ℕ) (k : Mark) (r : Reach) (n : ℕ) (a : Accessed) (o : List ℕ → Did)
-  → r ≡ reach w l d k → n ≡ r .queue .capacity → a ≡ perform (r .queue) (stretch (r .base) n xs) (r .access) (isWeak k)
-  → ((ys : List ℕ) → o ys ≡ went w d r a ys) → o (putMid (r .base) n xs (a .slots)) ≡ deskStep w l d xs k
+    → r ≡ reach w l d k → n ≡ r .queue .capacity → a ≡ perform (r .queue) (stretch (r .base) n xs) (r .access) (isWeak k)
+    → ((ys : List ℕ) → o ys ≡ went w d r a ys) → o (putMid (r .base) n xs (a .slots)) ≡ deskStep w l d xs k
 unfolding deskStep
 one-is w l d xs k r n a o er en ea eo =
     eo (putMid (r .base) n xs (a .slots)) ∙ ap (λ (ys : List ℕ). went w d r a ys) (put-is xs (r .base) n (a .slots)) ∙ simp (ea, en, er)

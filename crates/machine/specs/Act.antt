@@ -34,23 +34,23 @@ threeEffects l = record { count = length l; first = getD l 0 noEffect; second = 
 
 abbrev pub ofOutcome : Outcome → Acted
 ofOutcome o = record {
-    machine = o .machine;
-    items = o .items;
-    answer = o .answer;
-    effects = threeEffects (noted [] (o .effect));
-    steps = 0;
-    refusal = o .refusal
-  }
+  machine = o .machine;
+  items = o .items;
+  answer = o .answer;
+  effects = threeEffects (noted [] (o .effect));
+  steps = 0;
+  refusal = o .refusal;
+}
 
 abbrev pub ofAlone : Alone → Acted
 ofAlone r = record {
-    machine = r .machine;
-    items = r .items;
-    answer = r .answer;
-    effects = threeEffects (r .effects);
-    steps = r .steps;
-    refusal = r .refusal
-  }
+  machine = r .machine;
+  items = r .items;
+  answer = r .answer;
+  effects = threeEffects (r .effects);
+  steps = r .steps;
+  refusal = r .refusal;
+}
 
 abbrev pub acted : ℕ → ℕ → Machine → List ℕ → ℕ → Act → Acted
 acted w most m xs who (begins c) = ofOutcome (begin w most m xs who c)

@@ -34,12 +34,12 @@ pub record Look : Type 0 where
 
 abbrev pub deskSight : Desk → Mark → Sight
 deskSight d k = record {
-    kind = d .own .kind;
-    capacity = d .own .capacity;
-    from = d .source .kind;
-    drain = d .party .drain;
-    mark = k
-  }
+  kind = d .own .kind;
+  capacity = d .own .capacity;
+  from = d .source .kind;
+  drain = d .party .drain;
+  mark = k;
+}
 
 abbrev pub deskRow : ℕ → Desk → Mark → Row
 deskRow w d k = rowOf w (deskSight d k) (d .party .place)
@@ -57,10 +57,10 @@ baseFor a l = pick a (l .source) (l .own)
 -- the desk with that queue and the party's next place
 abbrev pub deskWith : Bool → Desk → Queue → Next → Desk
 deskWith a d q n = record {
-    party = record { place = n .place; drain = n .drain };
-    own = pick a (d .own) q;
-    source = pick a q (d .source)
-  }
+  party = record { place = n .place; drain = n .drain };
+  own = pick a (d .own) q;
+  source = pick a q (d .source);
+}
 
 pub record Did : Type 0 where
   pub desk : Desk
@@ -79,24 +79,24 @@ pub record Reach : Type 0 where
 
 abbrev pub reach : ℕ → Look → Desk → Mark → Reach
 reach w l d k = record {
-    sight = deskSight d k;
-    access = deskRow w d k .access;
-    away = away (deskRow w d k .whose) (l .same);
-    queue = queueFor (away (deskRow w d k .whose) (l .same)) d;
-    base = baseFor (away (deskRow w d k .whose) (l .same)) l
-  }
+  sight = deskSight d k;
+  access = deskRow w d k .access;
+  away = away (deskRow w d k .whose) (l .same);
+  queue = queueFor (away (deskRow w d k .whose) (l .same)) d;
+  base = baseFor (away (deskRow w d k .whose) (l .same)) l;
+}
 
 abbrev pub reaches : Reach → List ℕ → Mark → Accessed
 reaches r xs k = perform (r .queue) (stretch (r .base) (r .queue .capacity) xs) (r .access) (isWeak k)
 
 abbrev pub went : ℕ → Desk → Reach → Accessed → List ℕ → Did
 went w d r a xs = record {
-    desk = deskWith (r .away) d (a .queue) (rowOf w (r .sight) (d .party .place) .after (a .seen));
-    items = xs;
-    answer = rowOf w (r .sight) (d .party .place) .after (a .seen) .answer;
-    deed = rowOf w (r .sight) (d .party .place) .after (a .seen) .deed;
-    away = r .away
-  }
+  desk = deskWith (r .away) d (a .queue) (rowOf w (r .sight) (d .party .place) .after (a .seen));
+  items = xs;
+  answer = rowOf w (r .sight) (d .party .place) .after (a .seen) .answer;
+  deed = rowOf w (r .sight) (d .party .place) .after (a .seen) .deed;
+  away = r .away;
+}
 
 abbrev pub steps : ℕ → Desk → Reach → Accessed → List ℕ → Did
 steps w d r a xs = went w d r a (restretched (r .base) (r .queue .capacity) (a .slots) xs)
@@ -119,12 +119,12 @@ pub record Ran : Type 0 where
 
 abbrev pub ranOn : (who f : ℕ) → Ran → Did → Ran
 ranOn who f r o = record {
-    desk = o .desk;
-    items = o .items;
-    answer = o .answer;
-    effects = noted (r .effects) (deskEffect who f o);
-    steps = r .steps + 1
-  }
+  desk = o .desk;
+  items = o .items;
+  answer = o .answer;
+  effects = noted (r .effects) (deskEffect who f o);
+  steps = r .steps + 1;
+}
 
 abbrev pub ranStops : Ran → Bool
 ranStops r = orb (not (isPending (r .answer))) (wishes (wishOf (r .desk .party .place)))
@@ -148,12 +148,12 @@ pub record Lone : Type 0 where
 
 abbrev pub loneOn : (who f : ℕ) → Lone → Did → Lone
 loneOn who f r o = record {
-    desk = o .desk;
-    items = o .items;
-    answer = o .answer;
-    effects = note (r .effects) (deskEffect who f o);
-    steps = r .steps + 1
-  }
+  desk = o .desk;
+  items = o .items;
+  answer = o .answer;
+  effects = note (r .effects) (deskEffect who f o);
+  steps = r .steps + 1;
+}
 
 abbrev pub loneOf : Ran → Lone
 loneOf r = record { desk = r .desk; items = r .items; answer = r .answer; effects = threeEffects (r .effects); steps = r .steps }
@@ -184,20 +184,20 @@ asCame d xs k = record { desk = d; items = xs; answer = A.pending; effects = thr
 
 abbrev pub begunDesk : Desk → Call → Desk
 begunDesk d c = record {
-    party = record { place = start (d .own .kind) c; drain = d .party .drain };
-    own = d .own;
-    source = d .source
-  }
+  party = record { place = start (d .own .kind) c; drain = d .party .drain };
+  own = d .own;
+  source = d .source;
+}
 
 abbrev pub ofDid : (who f : ℕ) → Did → Turned
 ofDid who f o = record {
-    desk = o .desk;
-    items = o .items;
-    answer = o .answer;
-    effects = threeEffects (noted [] (deskEffect who f o));
-    steps = 0;
-    refusal = 0
-  }
+  desk = o .desk;
+  items = o .items;
+  answer = o .answer;
+  effects = threeEffects (noted [] (deskEffect who f o));
+  steps = 0;
+  refusal = 0;
+}
 
 abbrev pub ofLone : Lone → Turned
 ofLone r = record { desk = r .desk; items = r .items; answer = r .answer; effects = r .effects; steps = r .steps; refusal = 0 }
@@ -235,20 +235,20 @@ pub record Roomy (l : Effects) : Type 0 where
 
 abbrev pub putBack : Machine → (who f : ℕ) → Desk → Machine
 putBack m who f d = record {
-    parties = m .parties;
-    party = set (m .party) who (d .party);
-    queue = set (set (m .queue) f (d .source)) who (d .own)
-  }
+  parties = m .parties;
+  party = set (m .party) who (d .party);
+  queue = set (set (m .queue) f (d .source)) who (d .own);
+}
 
 abbrev pub putActed : Machine → (x y : ℕ) → Turned → Acted
 putActed m x y t = record {
-    machine = putBack m x y (t .desk);
-    items = t .items;
-    answer = t .answer;
-    effects = t .effects;
-    steps = t .steps;
-    refusal = t .refusal
-  }
+  machine = putBack m x y (t .desk);
+  items = t .items;
+  answer = t .answer;
+  effects = t .effects;
+  steps = t .steps;
+  refusal = t .refusal;
+}
 
 -- ---- the record test, party by party
 
@@ -264,11 +264,11 @@ fine w k n i p c = andb (powBelow w c) (andb (ltb (sourceOf i p) n) (hasPlace k 
 
 abbrev pub surveyed : ℕ → Kind → (parties who f i : ℕ) → Survey → Party → Queue → Survey
 surveyed w k n who f i s p q = record {
-    sound = andb (s .sound) (fine w k n i (p .place) (q .capacity));
-    total = s .total + q .capacity;
-    own = pick (eqb i who) (s .total) (s .own);
-    source = pick (eqb i f) (s .total) (s .source)
-  }
+  sound = andb (s .sound) (fine w k n i (p .place) (q .capacity));
+  total = s .total + q .capacity;
+  own = pick (eqb i who) (s .total) (s .own);
+  source = pick (eqb i f) (s .total) (s .source);
+}
 
 abbrev pub passed : (most parties lent : ℕ) → Survey → Bool
 passed most n lent s = andb (ltb 0 n) (andb (leb n most) (andb (s .sound) (leb (s .total) lent)))

@@ -35,10 +35,10 @@ viewParty x = record { place = Q.viewPlace (x .place); drain = Q.viewDrain (x .d
 -- today's machine gives all queues one kind
 abbrev pub viewMachine : Machine → M.Machine
 viewMachine x = record {
-    parties = x .parties;
-    party = map viewParty (x .party);
-    queue = map (Q.viewQueue (Q.viewKind (x .kind))) (x .queue)
-  }
+  parties = x .parties;
+  party = map viewParty (x .party);
+  queue = map (Q.viewQueue (Q.viewKind (x .kind))) (x .queue);
+}
 
 -- the kind asked, for each queue
 unfoldable pub everyKind : ℕ → R.Kind → List R.Kind
@@ -61,13 +61,13 @@ viewAct (Act·v.Alone n) = Ac.alones n
 
 abbrev pub viewActed : Acted → List ℕ → Ac.Acted
 viewActed x xs = record {
-    machine = viewMachine (x .machine);
-    items = xs;
-    answer = Q.viewAnswer (x .answer);
-    effects = viewEffects (x .effects);
-    steps = x .steps;
-    refusal = x .refusal
-  }
+  machine = viewMachine (x .machine);
+  items = xs;
+  answer = Q.viewAnswer (x .answer);
+  effects = viewEffects (x .effects);
+  steps = x .steps;
+  refusal = x .refusal;
+}
 
 -- ---- the desk, at the machine's kind
 
@@ -79,40 +79,40 @@ viewLook x = record { same = eqb (x .from) (x .who); own = x .own; source = x .s
 
 abbrev pub viewReached : R.Kind → Reached → D.Reach
 viewReached k x = record {
-    sight = Q.viewSight (x .sight);
-    access = Q.viewAccess (x .access);
-    away = x .away;
-    queue = Q.viewQueue k (x .queue);
-    base = x .base
-  }
+  sight = Q.viewSight (x .sight);
+  access = Q.viewAccess (x .access);
+  away = x .away;
+  queue = Q.viewQueue k (x .queue);
+  base = x .base;
+}
 
 abbrev pub viewDid : R.Kind → Did → List ℕ → D.Did
 viewDid k x xs = record {
-    desk = viewDesk k (x .desk);
-    items = xs;
-    answer = Q.viewAnswer (x .answer);
-    deed = Q.viewDeed (x .deed);
-    away = x .away
-  }
+  desk = viewDesk k (x .desk);
+  items = xs;
+  answer = Q.viewAnswer (x .answer);
+  deed = Q.viewDeed (x .deed);
+  away = x .away;
+}
 
 abbrev pub viewLone : R.Kind → Ran → List ℕ → D.Lone
 viewLone k x xs = record {
-    desk = viewDesk k (x .desk);
-    items = xs;
-    answer = Q.viewAnswer (x .answer);
-    effects = viewEffects (x .effects);
-    steps = x .steps
-  }
+  desk = viewDesk k (x .desk);
+  items = xs;
+  answer = Q.viewAnswer (x .answer);
+  effects = viewEffects (x .effects);
+  steps = x .steps;
+}
 
 abbrev pub viewTurned : R.Kind → Turned → List ℕ → D.Turned
 viewTurned k x xs = record {
-    desk = viewDesk k (x .desk);
-    items = xs;
-    answer = Q.viewAnswer (x .answer);
-    effects = viewEffects (x .effects);
-    steps = x .steps;
-    refusal = x .refusal
-  }
+  desk = viewDesk k (x .desk);
+  items = xs;
+  answer = Q.viewAnswer (x .answer);
+  effects = viewEffects (x .effects);
+  steps = x .steps;
+  refusal = x .refusal;
+}
 
 abbrev pub viewSurvey : Survey → D.Survey
 viewSurvey x = record { sound = x .sound; total = x .total; own = x .own; source = x .source }

@@ -6,14 +6,18 @@ ghost use Rattle.tables.specs.Step as St;
 ghost use Rattle.queue.specs.View as Q;
 ghost use Rattle.machine.specs.Note as Nt;
 ghost use Rattle.machine.specs.View as Vw;
-
+use super::Effect;
+use super::Effects;
 use queue::Deed;
-use super::{Effect, Effects};
 
 fn named(party: u64, queue: u64, deed: Deed) -> Effect
     ensures { λ r. ⌜ Vw.viewEffect r ≡ record { party = party; queue = queue; deed = Q.viewDeed deed } ⌝ }
 {
-    Effect { party: party, queue: queue, deed: deed }
+    Effect {
+        party: party,
+        queue: queue,
+        deed: deed,
+    }
 }
 
 // An effect names its party and queue; landed names the source.
@@ -72,7 +76,12 @@ pub fn no_effects() -> Effects
     ensures { λ r. ⌜ Vw.viewEffects r ≡ Nt.noEffects ⌝ }
 {
     let none = named(0, 0, Deed::Nothing);
-    Effects { count: 0, first: none, second: none, third: none }
+    Effects {
+        count: 0,
+        first: none,
+        second: none,
+        third: none,
+    }
 }
 
 // Whether two effects in a row are dropped ones, which are counted as one.
@@ -106,9 +115,19 @@ fn second(l: Effects, e: Effect) -> Effects
     let none = l.third;
     if joins(first, e) {
         let m = merged(first, e);
-        Effects { count: 1, first: m, second: none, third: none }
+        Effects {
+            count: 1,
+            first: m,
+            second: none,
+            third: none,
+        }
     } else {
-        Effects { count: 2, first: first, second: e, third: none }
+        Effects {
+            count: 2,
+            first: first,
+            second: e,
+            third: none,
+        }
     }
 }
 
@@ -121,9 +140,19 @@ fn third(l: Effects, e: Effect) -> Effects
     let none = l.third;
     if joins(second, e) {
         let m = merged(second, e);
-        Effects { count: 2, first: first, second: m, third: none }
+        Effects {
+            count: 2,
+            first: first,
+            second: m,
+            third: none,
+        }
     } else {
-        Effects { count: 3, first: first, second: second, third: e }
+        Effects {
+            count: 3,
+            first: first,
+            second: second,
+            third: e,
+        }
     }
 }
 
@@ -136,7 +165,12 @@ fn last(l: Effects, e: Effect) -> Effects
     let third = l.third;
     if joins(third, e) {
         let m = merged(third, e);
-        Effects { count: 3, first: first, second: second, third: m }
+        Effects {
+            count: 3,
+            first: first,
+            second: second,
+            third: m,
+        }
     } else {
         l
     }
@@ -153,7 +187,12 @@ pub fn note(l: Effects, e: Effect) -> Effects
     }
     if l.count == 0 {
         let none = l.third;
-        return Effects { count: 1, first: e, second: none, third: none };
+        return Effects {
+            count: 1,
+            first: e,
+            second: none,
+            third: none,
+        };
     }
     if l.count == 1 {
         return second(l, e);

@@ -9,8 +9,16 @@ ghost use Rattle.machine.specs.Act as Ac;
 ghost use Rattle.machine.specs.Desk as D;
 ghost use Rattle.machine.specs.View as Vw;
 ghost use Rattle.machine.specs.View.{most};
-
-use queue::{Access, Answer, Call, Deed, Drain, Kind, Mark, Place, Queue, Sight};
+use queue::Access;
+use queue::Answer;
+use queue::Call;
+use queue::Deed;
+use queue::Drain;
+use queue::Kind;
+use queue::Mark;
+use queue::Place;
+use queue::Queue;
+use queue::Sight;
 
 pub mod deeds; // what a step has done, and the few effects of a run alone
 pub mod turn; // one party with its own queue and its source's
@@ -121,9 +129,7 @@ pub struct Turned {
 // handed on is one party and two queues. A place is looked up by its number's remainder, which is a place of the table whatever
 // the number; a party or source that is not there is refused.
 pub fn apply(m: Machine, items: &mut [u64], who: u64, act: Act) -> Acted
-    ensures {
-        λ r. ⌜ Vw.viewActed r (now (items .exit)) ≡ Ac.acted width most (Vw.viewMachine m) (now (items .entry)) who (Vw.viewAct act) ⌝
-    }
+    ensures { λ r. ⌜ Vw.viewActed r (now (items .exit)) ≡ Ac.acted width most (Vw.viewMachine m) (now (items .entry)) who (Vw.viewAct act) ⌝ }
 {
     let kind = m.kind;
     let parties = m.parties;
@@ -144,16 +150,31 @@ pub fn apply(m: Machine, items: &mut [u64], who: u64, act: Act) -> Acted
         i += 1;
     }
     let ok = test::passed(s, parties, items.len());
-    let look = Look { who: who, from: from, own: s.own, source: s.source };
-    let t = turn::turned(kind, ok, parties, look, Desk { party: party, own: own, source: source }, items, act);
+    let look = Look {
+        who: who,
+        from: from,
+        own: s.own,
+        source: s.source,
+    };
+    let t = turn::turned(
+        kind,
+        ok,
+        parties,
+        look,
+        Desk {
+            party: party,
+            own: own,
+            source: source,
+        },
+        items,
+        act,
+    );
     put_back(m, x, y, t)
 }
 
 fn put_back(m: Machine, x: usize, y: usize, t: Turned) -> Acted
     requires { ⌜ (x < 16) × (y < 16) ⌝ }
-    ensures {
-        λ r. ⌜ ((xs : List ℕ) → Vw.viewActed r xs ≡ D.putActed (Vw.viewMachine m) x y (Vw.viewTurned (Q.viewKind (m .kind)) t xs)) ⌝
-    }
+    ensures { λ r. ⌜ ((xs : List ℕ) → Vw.viewActed r xs ≡ D.putActed (Vw.viewMachine m) x y (Vw.viewTurned (Q.viewKind (m .kind)) t xs)) ⌝ }
 {
     let mut out = m;
     let desk = t.desk;
@@ -165,35 +186,35 @@ fn put_back(m: Machine, x: usize, y: usize, t: Turned) -> Acted
     out.queue[x] = own;
     let answer = t.answer;
     let effects = t.effects;
-    Acted { machine: out, answer: answer, effects: effects, steps: t.steps, refusal: t.refusal }
+    Acted {
+        machine: out,
+        answer: answer,
+        effects: effects,
+        steps: t.steps,
+        refusal: t.refusal,
+    }
 }
 
 // Begin a call: it touches no word.
 pub fn begin(m: Machine, items: &mut [u64], who: u64, call: Call) -> Acted
-    ensures {
-        λ r. ⌜ Vw.viewActed r (now (items .exit))
-            ≡ Ac.ofOutcome (St.begin width most (Vw.viewMachine m) (now (items .entry)) who (Q.viewCall call)) ⌝
-    }
+    ensures { λ r. ⌜ Vw.viewActed r (now (items .exit))
+        ≡ Ac.ofOutcome (St.begin width most (Vw.viewMachine m) (now (items .entry)) who (Q.viewCall call)) ⌝ }
 {
     apply(m, items, who, Act::Begin(call))
 }
 
 // One step of a call, with its mark.
 pub fn step(m: Machine, items: &mut [u64], who: u64, mark: Mark) -> Acted
-    ensures {
-        λ r. ⌜ Vw.viewActed r (now (items .exit))
-            ≡ Ac.ofOutcome (St.step width most (Vw.viewMachine m) (now (items .entry)) who (Q.viewMark mark)) ⌝
-    }
+    ensures { λ r. ⌜ Vw.viewActed r (now (items .exit))
+        ≡ Ac.ofOutcome (St.step width most (Vw.viewMachine m) (now (items .entry)) who (Q.viewMark mark)) ⌝ }
 {
     apply(m, items, who, Act::Step(mark))
 }
 
 // Run alone: plain steps of one party, up to a budget.
 pub fn run_alone(m: Machine, items: &mut [u64], who: u64, budget: u64) -> Acted
-    ensures {
-        λ r. ⌜ Vw.viewActed r (now (items .exit))
-            ≡ Ac.ofAlone (St.alone width most (Vw.viewMachine m) (now (items .entry)) who budget) ⌝
-    }
+    ensures { λ r. ⌜ Vw.viewActed r (now (items .exit))
+        ≡ Ac.ofAlone (St.alone width most (Vw.viewMachine m) (now (items .entry)) who budget) ⌝ }
 {
     apply(m, items, who, Act::Alone(budget))
 }

@@ -9,9 +9,14 @@ ghost use Rattle.tables.specs.Step as St;
 ghost use Rattle.queue.specs.View as Q;
 ghost use Rattle.machine.specs.View as Vw;
 ghost use Rattle.machine.specs.View.{most, everyKind};
-
-use queue::{Drain, Kind, Place, Queue};
-use super::{Machine, Opened, Party, MOST};
+use super::MOST;
+use super::Machine;
+use super::Opened;
+use super::Party;
+use queue::Drain;
+use queue::Kind;
+use queue::Place;
+use queue::Queue;
 
 struct Filled {
     machine: Machine,
@@ -20,13 +25,24 @@ struct Filled {
 
 // No parties, all places idle, all words 0.
 fn blank(kind: Kind) -> Machine
-    ensures {
-        λ r. ⌜ (r .kind ≡ kind) × (Vw.viewMachine r ≡ St.tables most 0 (St.closedQueues most (everyKind most (Q.viewKind kind)))) ⌝
-    }
+    ensures { λ r. ⌜ (r .kind ≡ kind) × (Vw.viewMachine r ≡ St.tables most 0 (St.closedQueues most (everyKind most (Q.viewKind kind)))) ⌝ }
 {
-    let party = Party { place: Place::Idle, drain: Drain { at: 0, end: 0 } };
-    let queue = Queue { capacity: 0, count: 0, packed: 0, done: 0 };
-    Machine { kind: kind, parties: 0, party: [party; MOST], queue: [queue; MOST] }
+    let party = Party {
+        place: Place::Idle,
+        drain: Drain { at: 0, end: 0 },
+    };
+    let queue = Queue {
+        capacity: 0,
+        count: 0,
+        packed: 0,
+        done: 0,
+    };
+    Machine {
+        kind: kind,
+        parties: 0,
+        party: [party; MOST],
+        queue: [queue; MOST],
+    }
 }
 
 // Whether one of the first n requests is above the largest capacity.
@@ -57,10 +73,20 @@ fn fresh(kind: Kind, request: u64, position: u32) -> Queue
     let capacity = words::capacity(request);
     match kind {
         Kind::Lifo => {
-            Queue { capacity: capacity, count: position, packed: words::pack(0, position), done: position }
+            Queue {
+                capacity: capacity,
+                count: position,
+                packed: words::pack(0, position),
+                done: position,
+            }
         }
         Kind::Fifo => {
-            Queue { capacity: capacity, count: position, packed: words::pack(position, position), done: 0 }
+            Queue {
+                capacity: capacity,
+                count: position,
+                packed: words::pack(position, position),
+                done: 0,
+            }
         }
     }
 }
@@ -69,16 +95,10 @@ fn fresh(kind: Kind, request: u64, position: u32) -> Queue
 fn fill(machine: Machine, requests: [u64; MOST], positions: [u32; MOST], n: usize) -> Filled
     requires { ⌜ n ≤ most ⌝ }
     requires { ⌜ St.overTo width requests n ≡ false ⌝ }
-    requires {
-        ⌜ Vw.viewMachine machine ≡ St.tables most 0 (St.closedQueues most (everyKind most (Q.viewKind (machine .kind)))) ⌝
-    }
-    ensures {
-        λ r. ⌜ Vw.viewMachine (r .machine)
-            ≡ St.tables most n (St.openQueues width most (everyKind most (Q.viewKind (machine .kind))) n requests positions) ⌝
-    }
-    ensures {
-        λ r. ⌜ r .total ≡ M.baseOf n (St.openQueues width most (everyKind most (Q.viewKind (machine .kind))) n requests positions) ⌝
-    }
+    requires { ⌜ Vw.viewMachine machine ≡ St.tables most 0 (St.closedQueues most (everyKind most (Q.viewKind (machine .kind)))) ⌝ }
+    ensures { λ r. ⌜ Vw.viewMachine (r .machine)
+        ≡ St.tables most n (St.openQueues width most (everyKind most (Q.viewKind (machine .kind))) n requests positions) ⌝ }
+    ensures { λ r. ⌜ r .total ≡ M.baseOf n (St.openQueues width most (everyKind most (Q.viewKind (machine .kind))) n requests positions) ⌝ }
 {
     let mut out = machine;
     let kind = machine.kind;
@@ -91,30 +111,52 @@ fn fill(machine: Machine, requests: [u64; MOST], positions: [u32; MOST], n: usiz
         i += 1;
     }
     out.parties = n as u32;
-    Filled { machine: out, total: total }
+    Filled {
+        machine: out,
+        total: total,
+    }
 }
 
 // Refusals 1, 7 and 8, in that order.
-pub fn open(kind: Kind, parties: u64, requests: [u64; MOST], positions: [u32; MOST], lent: u64) -> Opened
-    ensures {
-        λ r. ⌜ Vw.viewOpened r ≡ St.opening width most (everyKind most (Q.viewKind kind)) parties requests positions lent ⌝
-    }
+pub fn open(
+    kind: Kind,
+    parties: u64,
+    requests: [u64; MOST],
+    positions: [u32; MOST],
+    lent: u64,
+) -> Opened
+    ensures { λ r. ⌜ Vw.viewOpened r ≡ St.opening width most (everyKind most (Q.viewKind kind)) parties requests positions lent ⌝ }
 {
     let closed = blank(kind);
     if parties == 0 {
-        return Opened { machine: closed, refusal: 1 };
+        return Opened {
+            machine: closed,
+            refusal: 1,
+        };
     }
     if 16 < parties {
-        return Opened { machine: closed, refusal: 1 };
+        return Opened {
+            machine: closed,
+            refusal: 1,
+        };
     }
     let n = parties as usize;
     if over(requests, n) {
-        return Opened { machine: closed, refusal: 7 };
+        return Opened {
+            machine: closed,
+            refusal: 7,
+        };
     }
     let f = fill(closed, requests, positions, n);
     if lent < f.total {
-        return Opened { machine: closed, refusal: 8 };
+        return Opened {
+            machine: closed,
+            refusal: 8,
+        };
     }
     let machine = f.machine;
-    Opened { machine: machine, refusal: 0 }
+    Opened {
+        machine: machine,
+        refusal: 0,
+    }
 }

@@ -10,14 +10,21 @@ ghost use Rattle.queue.specs.View as Q;
 ghost use Rattle.machine.specs.Desk as D;
 ghost use Rattle.machine.specs.View as Vw;
 ghost use Rattle.machine.specs.View.{most};
-
-use queue::{Kind, Place, Queue};
-use super::{Party, Survey};
+use super::Party;
+use super::Survey;
+use queue::Kind;
+use queue::Place;
+use queue::Queue;
 
 pub fn nothing() -> Survey
     ensures { λ r. ⌜ Vw.viewSurvey r ≡ record { sound = true; total = 0; own = 0; source = 0 } ⌝ }
 {
-    Survey { sound: true, total: 0, own: 0, source: 0 }
+    Survey {
+        sound: true,
+        total: 0,
+        own: 0,
+        source: 0,
+    }
 }
 
 // How many parties there are to look at: none where their number is out of range, since the test fails then.
@@ -54,13 +61,20 @@ fn both(a: bool, b: bool) -> bool
     if a { b } else { false }
 }
 
-pub fn surveyed(s: Survey, kind: Kind, parties: u32, i: u64, party: Party, queue: Queue, who: u64, from: u64) -> Survey
+pub fn surveyed(
+    s: Survey,
+    kind: Kind,
+    parties: u32,
+    i: u64,
+    party: Party,
+    queue: Queue,
+    who: u64,
+    from: u64,
+) -> Survey
     requires { ⌜ s .total < 2 ^ 63 ⌝ }
-    ensures {
-        λ r. ⌜ Vw.viewSurvey r
-            ≡ D.surveyed width (Q.viewKind kind) parties who from i (Vw.viewSurvey s) (Vw.viewParty party)
-            (Q.viewQueue (Q.viewKind kind) queue) ⌝
-    }
+    ensures { λ r. ⌜ Vw.viewSurvey r
+        ≡ D.surveyed width (Q.viewKind kind) parties who from i (Vw.viewSurvey s) (Vw.viewParty party)
+        (Q.viewQueue (Q.viewKind kind) queue) ⌝ }
     ensures { λ r. ⌜ r .total < s .total + 2 ^ width ⌝ }
 {
     let place = party.place;

@@ -1,6 +1,6 @@
 -- A slot lies within its queue's stretch.
 use Prim.Native.Nat.{ℕ, _<_}
-use mathlib.Core.Path.{_≡_, sym}
+use mathlib.Core.Path.{_≡_}
 use native.Mathlib.Nat.{mod-lt}
 use Rattle.words.specs.Word.{Pow, slotOf}
 use Rattle.words.proofs.Powers.{pow-positive}

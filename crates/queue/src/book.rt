@@ -6,8 +6,22 @@ ghost use Rattle.tables.specs.Rule as R;
 ghost use Rattle.tables.specs.Table as T;
 ghost use Rattle.tables.specs.Tables as All;
 ghost use Rattle.queue.specs.View as Vw;
-
-use super::{Access, Answer, BookPlace, Deed, Drain, Goal, Haul, Mark, MovePlace, Next, Place, Rule, Seen, Sight, Trip, Wanted};
+use super::Access;
+use super::Answer;
+use super::BookPlace;
+use super::Deed;
+use super::Drain;
+use super::Goal;
+use super::Haul;
+use super::Mark;
+use super::MovePlace;
+use super::Next;
+use super::Place;
+use super::Rule;
+use super::Seen;
+use super::Sight;
+use super::Trip;
+use super::Wanted;
 
 fn carried(mark: Mark) -> u64
     ensures { λ r. ⌜ r ≡ R.carried (Vw.viewMark mark) ⌝ }
@@ -65,9 +79,7 @@ fn limit_of(goal: Goal) -> u32
 
 // How many to book, of n seen.
 pub fn count_of(mark: Mark, goal: Goal, n: u32) -> u32
-    ensures {
-        λ r. ⌜ r ≡ leastOf (R.ruled (T.ruleOf (Vw.viewGoal goal)) (Vw.viewMark mark) n) (T.limitOf width (Vw.viewGoal goal)) n ⌝
-    }
+    ensures { λ r. ⌜ r ≡ leastOf (R.ruled (T.ruleOf (Vw.viewGoal goal)) (Vw.viewMark mark) n) (T.limitOf width (Vw.viewGoal goal)) n ⌝ }
 {
     words::least(ruled(rule_of(goal), mark, n), limit_of(goal), n)
 }
@@ -78,12 +90,34 @@ pub fn booked(s: Sight, goal: Goal, head: u32, count: u32) -> Next
     match goal {
         Goal::Haul(errand, dest) => {
             let haul = errand.haul;
-            let trip = Trip { source: errand.source, haul: haul, word: dest.word, tail: dest.tail, from: head, count: count };
-            super::on(s, Place::Move(MovePlace::ReadSlot { trip: trip, moved: 0 }), Deed::Booked(count))
+            let trip = Trip {
+                source: errand.source,
+                haul: haul,
+                word: dest.word,
+                tail: dest.tail,
+                from: head,
+                count: count,
+            };
+            super::on(
+                s,
+                Place::Move(MovePlace::ReadSlot {
+                    trip: trip,
+                    moved: 0,
+                }),
+                Deed::Booked(count),
+            )
         }
         Goal::Drain(_) => {
-            let drain = Drain { at: head, end: words::add(head, count) };
-            Next { place: Place::Idle, drain: drain, answer: Answer::Drain(count), deed: Deed::Booked(count) }
+            let drain = Drain {
+                at: head,
+                end: words::add(head, count),
+            };
+            Next {
+                place: Place::Idle,
+                drain: drain,
+                answer: Answer::Drain(count),
+                deed: Deed::Booked(count),
+            }
         }
     }
 }
@@ -95,30 +129,52 @@ pub fn wants(goal: Goal, place: BookPlace, s: Sight) -> Wanted
         BookPlace::LifoPacked => super::theirs(Access::LoadPacked),
         BookPlace::LifoDone { packed: _ } => super::theirs(Access::LoadDone),
         BookPlace::LifoCount { packed: _, done: _ } => super::theirs(Access::LoadCount),
-        BookPlace::LifoCas { packed, done: _, count } => {
+        BookPlace::LifoCas {
+            packed,
+            done: _,
+            count,
+        } => {
             let old = words::unpack(packed);
-            super::theirs(Access::Cas { old: packed, new: words::pack(old.high, words::add(old.low, count)) })
+            super::theirs(Access::Cas {
+                old: packed,
+                new: words::pack(old.high, words::add(old.low, count)),
+            })
         }
         BookPlace::FifoPacked => super::theirs(Access::LoadPacked),
         BookPlace::FifoTail { packed: _ } => super::theirs(Access::LoadCount),
         BookPlace::FifoCas { packed, count } => {
             let old = words::unpack(packed);
-            super::theirs(Access::Cas { old: packed, new: words::pack(words::add(old.high, count), old.low) })
+            super::theirs(Access::Cas {
+                old: packed,
+                new: words::pack(words::add(old.high, count), old.low),
+            })
         }
     }
 }
 
 pub fn advance(goal: Goal, place: BookPlace, s: Sight, seen: Seen) -> Next
-    ensures {
-        λ r. ⌜ Vw.viewNext r
-            ≡ All.bookRow width (Vw.viewSight s) (Vw.viewGoal goal) (Vw.viewBookPlace place) .after (Vw.viewSeen seen) ⌝
-    }
+    ensures { λ r. ⌜ Vw.viewNext r
+        ≡ All.bookRow width (Vw.viewSight s) (Vw.viewGoal goal) (Vw.viewBookPlace place) .after (Vw.viewSeen seen) ⌝ }
 {
     match place {
-        BookPlace::LifoPacked => super::on(s, Place::Book(goal, BookPlace::LifoDone { packed: seen.pair }), Deed::Nothing),
+        BookPlace::LifoPacked => super::on(
+            s,
+            Place::Book(goal, BookPlace::LifoDone { packed: seen.pair }),
+            Deed::Nothing,
+        ),
         BookPlace::LifoDone { packed } => super::lifo::done_test(s, goal, packed, seen.word),
-        BookPlace::LifoCount { packed, done } => super::lifo::counted(s, goal, packed, done, seen.word),
-        BookPlace::LifoCas { packed, done, count } => super::lifo::booked(s, goal, packed, done, count, seen),
+        BookPlace::LifoCount { packed, done } => super::lifo::counted(
+            s,
+            goal,
+            packed,
+            done,
+            seen.word,
+        ),
+        BookPlace::LifoCas {
+            packed,
+            done,
+            count,
+        } => super::lifo::booked(s, goal, packed, done, count, seen),
         BookPlace::FifoPacked => super::fifo::heads_test(s, goal, seen.pair),
         BookPlace::FifoTail { packed } => super::fifo::counted(s, goal, packed, seen.word),
         BookPlace::FifoCas { packed, count } => super::fifo::booked(s, goal, packed, count, seen),

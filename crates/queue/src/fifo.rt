@@ -5,9 +5,19 @@ ghost use Rattle.words.specs.Edition.{width};
 ghost use Rattle.tables.specs.Access as X;
 ghost use Rattle.tables.specs.FifoTable as T;
 ghost use Rattle.queue.specs.View as Vw;
-
+use super::Access;
+use super::Answer;
+use super::BookPlace;
+use super::Deed;
+use super::FifoPlace;
+use super::Goal;
+use super::Next;
+use super::OwnPlace;
+use super::Place;
+use super::Seen;
+use super::Sight;
+use super::Wanted;
 use words::Position;
-use super::{Access, Answer, BookPlace, Deed, FifoPlace, Goal, Next, OwnPlace, Place, Seen, Sight, Wanted};
 
 // The stealer head follows the worker head only where no booking is open.
 fn popped_heads(packed: u64) -> u64
@@ -32,7 +42,10 @@ pub fn wants(place: FifoPlace, s: Sight) -> Wanted
         FifoPlace::DestPacked { errand: _, tail: _ } => super::mine(Access::LoadPacked),
         FifoPlace::PopPacked => super::mine(Access::LoadPacked),
         FifoPlace::PopTail { packed: _ } => super::mine(Access::LoadCount),
-        FifoPlace::PopCas { packed } => super::mine(Access::Cas { old: packed, new: popped_heads(packed) }),
+        FifoPlace::PopCas { packed } => super::mine(Access::Cas {
+            old: packed,
+            new: popped_heads(packed),
+        }),
         FifoPlace::EmptyPacked => super::mine(Access::LoadPacked),
         FifoPlace::EmptyTail { packed: _ } => super::mine(Access::LoadCount),
     }
@@ -46,7 +59,11 @@ fn pop_test(s: Sight, packed: u64, tail: u32) -> Next
     if tail == old.high {
         super::ends(s, Answer::None, Deed::Nothing)
     } else {
-        super::on(s, Place::Fifo(FifoPlace::PopCas { packed: packed }), Deed::Nothing)
+        super::on(
+            s,
+            Place::Fifo(FifoPlace::PopCas { packed: packed }),
+            Deed::Nothing,
+        )
     }
 }
 
@@ -59,7 +76,11 @@ fn popped(s: Sight, packed: u64, seen: Seen) -> Next
         let at = Position(old.high);
         super::on(s, Place::Own(OwnPlace::PopRead { at: at }), Deed::Popped)
     } else {
-        super::on(s, Place::Fifo(FifoPlace::PopTail { packed: seen.pair }), Deed::Nothing)
+        super::on(
+            s,
+            Place::Fifo(FifoPlace::PopTail { packed: seen.pair }),
+            Deed::Nothing,
+        )
     }
 }
 
@@ -80,23 +101,45 @@ pub fn advance(place: FifoPlace, s: Sight, seen: Seen) -> Next
 {
     match place {
         FifoPlace::LoadPacked(fill) => {
-            super::on(s, Place::Fifo(FifoPlace::LoadTail { fill: fill, packed: seen.pair }), Deed::Nothing)
+            super::on(
+                s,
+                Place::Fifo(FifoPlace::LoadTail {
+                    fill: fill,
+                    packed: seen.pair,
+                }),
+                Deed::Nothing,
+            )
         }
         FifoPlace::LoadTail { fill, packed } => {
             let old = words::unpack(packed);
             super::own::filled(s, fill, seen.word, 0, seen.word, old.low)
         }
         FifoPlace::DestTail(errand) => {
-            super::on(s, Place::Fifo(FifoPlace::DestPacked { errand: errand, tail: seen.word }), Deed::Nothing)
+            super::on(
+                s,
+                Place::Fifo(FifoPlace::DestPacked {
+                    errand: errand,
+                    tail: seen.word,
+                }),
+                Deed::Nothing,
+            )
         }
         FifoPlace::DestPacked { errand, tail } => {
             let old = words::unpack(seen.pair);
             super::own::brought(s, errand, tail, tail, old.low)
         }
-        FifoPlace::PopPacked => super::on(s, Place::Fifo(FifoPlace::PopTail { packed: seen.pair }), Deed::Nothing),
+        FifoPlace::PopPacked => super::on(
+            s,
+            Place::Fifo(FifoPlace::PopTail { packed: seen.pair }),
+            Deed::Nothing,
+        ),
         FifoPlace::PopTail { packed } => pop_test(s, packed, seen.word),
         FifoPlace::PopCas { packed } => popped(s, packed, seen),
-        FifoPlace::EmptyPacked => super::on(s, Place::Fifo(FifoPlace::EmptyTail { packed: seen.pair }), Deed::Nothing),
+        FifoPlace::EmptyPacked => super::on(
+            s,
+            Place::Fifo(FifoPlace::EmptyTail { packed: seen.pair }),
+            Deed::Nothing,
+        ),
         FifoPlace::EmptyTail { packed } => is_empty(s, packed, seen.word),
     }
 }
@@ -107,7 +150,11 @@ pub fn heads_test(s: Sight, goal: Goal, packed: u64) -> Next
 {
     let old = words::unpack(packed);
     if old.high == old.low {
-        super::on(s, Place::Book(goal, BookPlace::FifoTail { packed: packed }), Deed::Nothing)
+        super::on(
+            s,
+            Place::Book(goal, BookPlace::FifoTail { packed: packed }),
+            Deed::Nothing,
+        )
     } else {
         super::ends(s, Answer::Busy, Deed::Nothing)
     }
@@ -127,7 +174,17 @@ pub fn counted(s: Sight, goal: Goal, packed: u64, tail: u32) -> Next
     if k == 0 {
         return super::ends(s, Answer::Empty, Deed::Nothing);
     }
-    super::on(s, Place::Book(goal, BookPlace::FifoCas { packed: packed, count: k }), Deed::Nothing)
+    super::on(
+        s,
+        Place::Book(
+            goal,
+            BookPlace::FifoCas {
+                packed: packed,
+                count: k,
+            },
+        ),
+        Deed::Nothing,
+    )
 }
 
 pub fn booked(s: Sight, goal: Goal, packed: u64, count: u32, seen: Seen) -> Next

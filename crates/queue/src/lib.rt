@@ -6,7 +6,6 @@ ghost use Prim.Native.Nat.{_≤_};
 ghost use Rattle.tables.specs.Row as Y;
 ghost use Rattle.tables.specs.Tables as T;
 ghost use Rattle.queue.specs.View as Vw;
-
 use words::Position;
 
 pub mod memory; // one access to one queue's words and slots
@@ -156,11 +155,28 @@ pub enum FifoPlace {
 }
 
 pub enum OwnPlace {
-    PushWrite { token: u64, word: u32, tail: u32 },
-    PushStore { word: u32 },
-    ExtendMore { pops: u32, tail: u32, limit: u32, written: u32 },
-    ExtendStore { pops: u32, tail: u32, written: u32 },
-    PopRead { at: Position },
+    PushWrite {
+        token: u64,
+        word: u32,
+        tail: u32,
+    },
+    PushStore {
+        word: u32,
+    },
+    ExtendMore {
+        pops: u32,
+        tail: u32,
+        limit: u32,
+        written: u32,
+    },
+    ExtendStore {
+        pops: u32,
+        tail: u32,
+        written: u32,
+    },
+    PopRead {
+        at: Position,
+    },
     NextItem,
     DropItem,
 }
@@ -268,13 +284,19 @@ pub struct Performed {
 pub fn mine(access: Access) -> Wanted
     ensures { λ r. ⌜ Vw.viewWanted r ≡ record { whose = Y.mine; access = Vw.viewAccess access } ⌝ }
 {
-    Wanted { whose: Whose::Mine, access: access }
+    Wanted {
+        whose: Whose::Mine,
+        access: access,
+    }
 }
 
 pub fn theirs(access: Access) -> Wanted
     ensures { λ r. ⌜ Vw.viewWanted r ≡ record { whose = Y.theirs; access = Vw.viewAccess access } ⌝ }
 {
-    Wanted { whose: Whose::Theirs, access: access }
+    Wanted {
+        whose: Whose::Theirs,
+        access: access,
+    }
 }
 
 // The call goes on at a place.
@@ -282,7 +304,12 @@ pub fn on(s: Sight, place: Place, deed: Deed) -> Next
     ensures { λ r. ⌜ Vw.viewNext r ≡ Y.on (Vw.viewSight s) (Vw.viewPlace place) (Vw.viewDeed deed) ⌝ }
 {
     let drain = s.drain;
-    Next { place: place, drain: drain, answer: Answer::Pending, deed: deed }
+    Next {
+        place: place,
+        drain: drain,
+        answer: Answer::Pending,
+        deed: deed,
+    }
 }
 
 // The call ends.
@@ -290,7 +317,12 @@ pub fn ends(s: Sight, answer: Answer, deed: Deed) -> Next
     ensures { λ r. ⌜ Vw.viewNext r ≡ Y.ends (Vw.viewSight s) (Vw.viewAnswer answer) (Vw.viewDeed deed) ⌝ }
 {
     let drain = s.drain;
-    Next { place: Place::Idle, drain: drain, answer: answer, deed: deed }
+    Next {
+        place: Place::Idle,
+        drain: drain,
+        answer: answer,
+        deed: deed,
+    }
 }
 
 pub fn wants(place: Place, s: Sight) -> Wanted

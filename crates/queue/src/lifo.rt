@@ -5,9 +5,20 @@ ghost use Rattle.words.specs.Edition.{width};
 ghost use Rattle.tables.specs.Access as X;
 ghost use Rattle.tables.specs.LifoTable as T;
 ghost use Rattle.queue.specs.View as Vw;
-
+use super::Access;
+use super::Answer;
+use super::BookPlace;
+use super::Deed;
+use super::Goal;
+use super::Job;
+use super::LifoPlace;
+use super::Next;
+use super::OwnPlace;
+use super::Place;
+use super::Seen;
+use super::Sight;
+use super::Wanted;
 use words::Position;
-use super::{Access, Answer, BookPlace, Deed, Goal, Job, LifoPlace, Next, OwnPlace, Place, Seen, Sight, Wanted};
 
 pub fn wants(place: LifoPlace, s: Sight) -> Wanted
     ensures { λ r. ⌜ Vw.viewWanted r ≡ Vw.wantOf (T.lifoRow width (Vw.viewSight s) (Vw.viewLifoPlace place)) ⌝ }
@@ -15,12 +26,19 @@ pub fn wants(place: LifoPlace, s: Sight) -> Wanted
     match place {
         LifoPlace::LoadCount(_) => super::mine(Access::LoadCount),
         LifoPlace::LoadPacked { job: _, count: _ } => super::mine(Access::LoadPacked),
-        LifoPlace::LoadDone { job: _, count: _, packed: _ } => super::mine(Access::LoadDone),
+        LifoPlace::LoadDone {
+            job: _,
+            count: _,
+            packed: _,
+        } => super::mine(Access::LoadDone),
         LifoPlace::PopPacked => super::mine(Access::LoadPacked),
         LifoPlace::PopCount { packed: _ } => super::mine(Access::LoadCount),
         LifoPlace::PopCas { packed, tail: _ } => {
             let old = words::unpack(packed);
-            super::mine(Access::Cas { old: packed, new: words::pack(words::add(old.high, 1), old.low) })
+            super::mine(Access::Cas {
+                old: packed,
+                new: words::pack(words::add(old.high, 1), old.low),
+            })
         }
         LifoPlace::EmptyCount => super::mine(Access::LoadCount),
         LifoPlace::EmptyPacked { count: _ } => super::mine(Access::LoadPacked),
@@ -48,7 +66,14 @@ fn pop_test(s: Sight, packed: u64, tail: u32) -> Next
     if tail == old.low {
         super::ends(s, Answer::None, Deed::Nothing)
     } else {
-        super::on(s, Place::Lifo(LifoPlace::PopCas { packed: packed, tail: tail }), Deed::Nothing)
+        super::on(
+            s,
+            Place::Lifo(LifoPlace::PopCas {
+                packed: packed,
+                tail: tail,
+            }),
+            Deed::Nothing,
+        )
     }
 }
 
@@ -89,16 +114,39 @@ pub fn advance(place: LifoPlace, s: Sight, seen: Seen) -> Next
 {
     match place {
         LifoPlace::LoadCount(job) => {
-            super::on(s, Place::Lifo(LifoPlace::LoadPacked { job: job, count: seen.word }), Deed::Nothing)
+            super::on(
+                s,
+                Place::Lifo(LifoPlace::LoadPacked {
+                    job: job,
+                    count: seen.word,
+                }),
+                Deed::Nothing,
+            )
         }
         LifoPlace::LoadPacked { job, count } => {
-            super::on(s, Place::Lifo(LifoPlace::LoadDone { job: job, count: count, packed: seen.pair }), Deed::Nothing)
+            super::on(
+                s,
+                Place::Lifo(LifoPlace::LoadDone {
+                    job: job,
+                    count: count,
+                    packed: seen.pair,
+                }),
+                Deed::Nothing,
+            )
         }
         LifoPlace::LoadDone { job, count, packed } => loaded(s, job, count, packed, seen.word),
-        LifoPlace::PopPacked => super::on(s, Place::Lifo(LifoPlace::PopCount { packed: seen.pair }), Deed::Nothing),
+        LifoPlace::PopPacked => super::on(
+            s,
+            Place::Lifo(LifoPlace::PopCount { packed: seen.pair }),
+            Deed::Nothing,
+        ),
         LifoPlace::PopCount { packed } => counted_pop(s, packed, seen.word),
         LifoPlace::PopCas { packed: _, tail } => popped(s, tail, seen),
-        LifoPlace::EmptyCount => super::on(s, Place::Lifo(LifoPlace::EmptyPacked { count: seen.word }), Deed::Nothing),
+        LifoPlace::EmptyCount => super::on(
+            s,
+            Place::Lifo(LifoPlace::EmptyPacked { count: seen.word }),
+            Deed::Nothing,
+        ),
         LifoPlace::EmptyPacked { count } => is_empty(s, count, seen.pair),
     }
 }
@@ -109,7 +157,17 @@ pub fn done_test(s: Sight, goal: Goal, packed: u64, done: u32) -> Next
 {
     let old = words::unpack(packed);
     if done == old.low {
-        super::on(s, Place::Book(goal, BookPlace::LifoCount { packed: packed, done: done }), Deed::Nothing)
+        super::on(
+            s,
+            Place::Book(
+                goal,
+                BookPlace::LifoCount {
+                    packed: packed,
+                    done: done,
+                },
+            ),
+            Deed::Nothing,
+        )
     } else {
         super::ends(s, Answer::Busy, Deed::Nothing)
     }
@@ -129,7 +187,18 @@ pub fn counted(s: Sight, goal: Goal, packed: u64, done: u32, count: u32) -> Next
     if k == 0 {
         return super::ends(s, Answer::Empty, Deed::Nothing);
     }
-    super::on(s, Place::Book(goal, BookPlace::LifoCas { packed: packed, done: done, count: k }), Deed::Nothing)
+    super::on(
+        s,
+        Place::Book(
+            goal,
+            BookPlace::LifoCas {
+                packed: packed,
+                done: done,
+                count: k,
+            },
+        ),
+        Deed::Nothing,
+    )
 }
 
 // The remembered completed head is compared with the new booked head, not loaded again.

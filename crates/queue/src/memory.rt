@@ -8,9 +8,11 @@ ghost use Rattle.words.specs.Word.{Pow, slotOf};
 ghost use Rattle.tables.specs.Rule.{Kind};
 ghost use Rattle.tables.specs.Access as X;
 ghost use Rattle.queue.specs.View as Vw;
-
+use super::Access;
+use super::Performed;
+use super::Queue;
+use super::Seen;
 use words::Position;
-use super::{Access, Performed, Queue, Seen};
 
 fn read_at(items: &[u64], at: Position, capacity: u32) -> u64
     requires { ⌜ Pow capacity ⌝ }
@@ -35,7 +37,15 @@ fn write_at(items: &mut [u64], at: Position, capacity: u32, token: u64)
 fn saw(queue: Queue, word: u32, pair: u64, token: u64, ok: bool) -> Performed
     ensures { λ r. ⌜ r ≡ record { queue = queue; seen = record { word = word; pair = pair; token = token; ok = ok } } ⌝ }
 {
-    Performed { queue: queue, seen: Seen { word: word, pair: pair, token: token, ok: ok } }
+    Performed {
+        queue: queue,
+        seen: Seen {
+            word: word,
+            pair: pair,
+            token: token,
+            ok: ok,
+        },
+    }
 }
 
 // A weak exchange may fail anyway; a failure hands back the word as it is.
@@ -45,7 +55,12 @@ fn compare_exchange(queue: Queue, old: u64, new: u64, weak: bool) -> Performed
     if weak {
         saw(queue, 0, queue.packed, 0, false)
     } else if queue.packed == old {
-        let q = Queue { capacity: queue.capacity, count: queue.count, packed: new, done: queue.done };
+        let q = Queue {
+            capacity: queue.capacity,
+            count: queue.count,
+            packed: new,
+            done: queue.done,
+        };
         saw(q, 0, queue.packed, 0, true)
     } else {
         saw(queue, 0, queue.packed, 0, false)
@@ -56,10 +71,8 @@ fn compare_exchange(queue: Queue, old: u64, new: u64, weak: bool) -> Performed
 pub fn perform(queue: Queue, items: &mut [u64], access: Access, weak: bool) -> Performed
     requires { ⌜ Pow (queue .capacity) ⌝ }
     requires { ⌜ length (now items) ≡ queue .capacity ⌝ }
-    ensures {
-        λ r. ⌜ ((k : Kind) → Vw.viewAccessed k r (now (items .exit))
-            ≡ X.perform (Vw.viewQueue k queue) (now (items .entry)) (Vw.viewAccess access) weak) ⌝
-    }
+    ensures { λ r. ⌜ ((k : Kind) → Vw.viewAccessed k r (now (items .exit))
+        ≡ X.perform (Vw.viewQueue k queue) (now (items .entry)) (Vw.viewAccess access) weak) ⌝ }
 {
     match access {
         Access::Touch => saw(queue, 0, 0, 0, true),
@@ -67,11 +80,21 @@ pub fn perform(queue: Queue, items: &mut [u64], access: Access, weak: bool) -> P
         Access::LoadPacked => saw(queue, 0, queue.packed, 0, true),
         Access::LoadDone => saw(queue, queue.done, 0, 0, true),
         Access::StoreCount(word) => {
-            let q = Queue { capacity: queue.capacity, count: word, packed: queue.packed, done: queue.done };
+            let q = Queue {
+                capacity: queue.capacity,
+                count: word,
+                packed: queue.packed,
+                done: queue.done,
+            };
             saw(q, 0, 0, 0, true)
         }
         Access::StoreDone(word) => {
-            let q = Queue { capacity: queue.capacity, count: queue.count, packed: queue.packed, done: word };
+            let q = Queue {
+                capacity: queue.capacity,
+                count: queue.count,
+                packed: queue.packed,
+                done: word,
+            };
             saw(q, 0, 0, 0, true)
         }
         Access::Cas { old, new } => compare_exchange(queue, old, new, weak),

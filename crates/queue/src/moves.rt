@@ -5,9 +5,18 @@ ghost use Rattle.tables.specs.Place as P;
 ghost use Rattle.tables.specs.Access as X;
 ghost use Rattle.tables.specs.Table as T;
 ghost use Rattle.queue.specs.View as Vw;
-
+use super::Access;
+use super::Deed;
+use super::Ending;
+use super::Haul;
+use super::MovePlace;
+use super::Next;
+use super::Place;
+use super::Seen;
+use super::Sight;
+use super::Trip;
+use super::Wanted;
 use words::Position;
-use super::{Access, Deed, Ending, Haul, MovePlace, Next, Place, Seen, Sight, Trip, Wanted};
 
 // A take does not write its last token: it keeps it in hand.
 fn last_read(trip: Trip, moved: u32) -> bool
@@ -44,9 +53,24 @@ fn was_read(s: Sight, trip: Trip, moved: u32, token: u64) -> Next
     ensures { λ r. ⌜ Vw.viewNext r ≡ T.wasRead width (Vw.viewSight s) (Vw.viewTrip trip) moved token ⌝ }
 {
     if last_read(trip, moved) {
-        super::on(s, Place::Move(MovePlace::Land { trip: trip, last: token }), Deed::Nothing)
+        super::on(
+            s,
+            Place::Move(MovePlace::Land {
+                trip: trip,
+                last: token,
+            }),
+            Deed::Nothing,
+        )
     } else {
-        super::on(s, Place::Move(MovePlace::WriteSlot { trip: trip, moved: moved, token: token }), Deed::Nothing)
+        super::on(
+            s,
+            Place::Move(MovePlace::WriteSlot {
+                trip: trip,
+                moved: moved,
+                token: token,
+            }),
+            Deed::Nothing,
+        )
     }
 }
 
@@ -54,10 +78,24 @@ fn was_written(s: Sight, trip: Trip, moved: u32) -> Next
     ensures { λ r. ⌜ Vw.viewNext r ≡ T.wasWritten width (Vw.viewSight s) (Vw.viewTrip trip) moved ⌝ }
 {
     if last_written(trip, moved) {
-        super::on(s, Place::Move(MovePlace::Land { trip: trip, last: 0 }), Deed::Nothing)
+        super::on(
+            s,
+            Place::Move(MovePlace::Land {
+                trip: trip,
+                last: 0,
+            }),
+            Deed::Nothing,
+        )
     } else {
         let next = words::add(moved, 1);
-        super::on(s, Place::Move(MovePlace::ReadSlot { trip: trip, moved: next }), Deed::Nothing)
+        super::on(
+            s,
+            Place::Move(MovePlace::ReadSlot {
+                trip: trip,
+                moved: next,
+            }),
+            Deed::Nothing,
+        )
     }
 }
 
@@ -69,12 +107,19 @@ fn landed(s: Sight, trip: Trip, last: u64) -> Next
     let haul = trip.haul;
     match haul {
         Haul::Steals => {
-            let ending = Ending::Stolen { source: trip.source, count: trip.count };
+            let ending = Ending::Stolen {
+                source: trip.source,
+                count: trip.count,
+            };
             super::on(s, Place::Close(ending, close), Deed::Landed(trip.count))
         }
         Haul::Takes => {
             let moved = words::sub(trip.count, 1);
-            let ending = Ending::Taken { source: trip.source, token: last, count: moved };
+            let ending = Ending::Taken {
+                source: trip.source,
+                token: last,
+                count: moved,
+            };
             super::on(s, Place::Close(ending, close), Deed::LandedLast(moved))
         }
     }
@@ -84,11 +129,17 @@ pub fn wants(place: MovePlace, s: Sight) -> Wanted
     ensures { λ r. ⌜ Vw.viewWanted r ≡ Vw.wantOf (T.moveRow width (Vw.viewSight s) (Vw.viewMovePlace place)) ⌝ }
 {
     match place {
-        MovePlace::ReadSlot { trip, moved } => super::theirs(Access::Read(Position(words::add(trip.from, moved)))),
+        MovePlace::ReadSlot { trip, moved } => super::theirs(Access::Read(Position(words::add(
+            trip.from,
+            moved,
+        )))),
         MovePlace::WriteSlot { trip, moved, token } => {
             super::mine(Access::Write(Position(words::add(trip.tail, moved)), token))
         }
-        MovePlace::Land { trip, last: _ } => super::mine(Access::StoreCount(words::add(trip.word, landing(trip)))),
+        MovePlace::Land { trip, last: _ } => super::mine(Access::StoreCount(words::add(
+            trip.word,
+            landing(trip),
+        ))),
     }
 }
 
@@ -97,7 +148,11 @@ pub fn advance(place: MovePlace, s: Sight, seen: Seen) -> Next
 {
     match place {
         MovePlace::ReadSlot { trip, moved } => was_read(s, trip, moved, seen.token),
-        MovePlace::WriteSlot { trip, moved, token: _ } => was_written(s, trip, moved),
+        MovePlace::WriteSlot {
+            trip,
+            moved,
+            token: _,
+        } => was_written(s, trip, moved),
         MovePlace::Land { trip, last } => landed(s, trip, last),
     }
 }

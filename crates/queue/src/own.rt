@@ -6,18 +6,43 @@ ghost use Rattle.tables.specs.Errand as G;
 ghost use Rattle.tables.specs.Place as P;
 ghost use Rattle.tables.specs.Table as T;
 ghost use Rattle.queue.specs.View as Vw;
-
+use super::Access;
+use super::Answer;
+use super::BookPlace;
+use super::Deed;
+use super::Dest;
+use super::Drain;
+use super::Ending;
+use super::Errand;
+use super::Fill;
+use super::Goal;
+use super::Kind;
+use super::Mark;
+use super::Next;
+use super::OwnPlace;
+use super::Place;
+use super::Seen;
+use super::Sight;
+use super::Wanted;
 use words::Position;
-use super::{Access, Answer, BookPlace, Deed, Dest, Drain, Ending, Errand, Fill, Goal, Kind, Mark, Next, OwnPlace, Place, Seen, Sight, Wanted};
 
 // Until tail = head + capacity a step carries a token, or says end; then one store.
 fn extending(pops: u32, tail: u32, limit: u32, written: u32) -> OwnPlace
     ensures { λ r. ⌜ Vw.viewOwnPlace r ≡ T.extending pops tail limit written ⌝ }
 {
     if tail == limit {
-        OwnPlace::ExtendStore { pops: pops, tail: tail, written: written }
+        OwnPlace::ExtendStore {
+            pops: pops,
+            tail: tail,
+            written: written,
+        }
     } else {
-        OwnPlace::ExtendMore { pops: pops, tail: tail, limit: limit, written: written }
+        OwnPlace::ExtendMore {
+            pops: pops,
+            tail: tail,
+            limit: limit,
+            written: written,
+        }
     }
 }
 
@@ -30,7 +55,15 @@ fn push_room(s: Sight, token: u64, word: u32, tail: u32, head: u32) -> Next
     if mask < words::sub(tail, head) {
         super::ends(s, Answer::Full(token), Deed::Nothing)
     } else {
-        super::on(s, Place::Own(OwnPlace::PushWrite { token: token, word: word, tail: tail }), Deed::Nothing)
+        super::on(
+            s,
+            Place::Own(OwnPlace::PushWrite {
+                token: token,
+                word: word,
+                tail: tail,
+            }),
+            Deed::Nothing,
+        )
     }
 }
 
@@ -42,9 +75,17 @@ pub fn filled(s: Sight, fill: Fill, word: u32, pops: u32, tail: u32, head: u32) 
     match fill {
         Fill::Push(token) => push_room(s, token, word, tail, head),
         Fill::Extend => {
-            super::on(s, Place::Own(extending(pops, tail, words::add(head, s.capacity), 0)), Deed::Nothing)
+            super::on(
+                s,
+                Place::Own(extending(pops, tail, words::add(head, s.capacity), 0)),
+                Deed::Nothing,
+            )
         }
-        Fill::Spare => super::ends(s, Answer::Spare(words::sub(s.capacity, words::sub(tail, head))), Deed::Nothing),
+        Fill::Spare => super::ends(
+            s,
+            Answer::Spare(words::sub(s.capacity, words::sub(tail, head))),
+            Deed::Nothing,
+        ),
     }
 }
 
@@ -63,7 +104,21 @@ pub fn brought(s: Sight, errand: Errand, word: u32, tail: u32, head: u32) -> Nex
 {
     let room = words::sub(s.capacity, words::sub(tail, head));
     let from = s.from;
-    super::on(s, Place::Book(Goal::Haul(errand, Dest { word: word, tail: tail, room: room }), booking(from)), Deed::Nothing)
+    super::on(
+        s,
+        Place::Book(
+            Goal::Haul(
+                errand,
+                Dest {
+                    word: word,
+                    tail: tail,
+                    room: room,
+                },
+            ),
+            booking(from),
+        ),
+        Deed::Nothing,
+    )
 }
 
 // With nothing open the drain touches nothing.
@@ -82,9 +137,18 @@ pub fn wants(place: OwnPlace, s: Sight) -> Wanted
     ensures { λ r. ⌜ Vw.viewWanted r ≡ Vw.wantOf (T.ownRow width (Vw.viewSight s) (Vw.viewOwnPlace place)) ⌝ }
 {
     match place {
-        OwnPlace::PushWrite { token, word: _, tail } => super::mine(Access::Write(Position(tail), token)),
+        OwnPlace::PushWrite {
+            token,
+            word: _,
+            tail,
+        } => super::mine(Access::Write(Position(tail), token)),
         OwnPlace::PushStore { word } => super::mine(Access::StoreCount(words::add(word, 1))),
-        OwnPlace::ExtendMore { pops: _, tail, limit: _, written: _ } => {
+        OwnPlace::ExtendMore {
+            pops: _,
+            tail,
+            limit: _,
+            written: _,
+        } => {
             let mark = s.mark;
             match mark {
                 Mark::Carry(token) => super::mine(Access::Write(Position(tail), token)),
@@ -93,7 +157,11 @@ pub fn wants(place: OwnPlace, s: Sight) -> Wanted
                 Mark::Weak => super::mine(Access::Touch),
             }
         }
-        OwnPlace::ExtendStore { pops, tail, written: _ } => super::mine(Access::StoreCount(words::add(tail, pops))),
+        OwnPlace::ExtendStore {
+            pops,
+            tail,
+            written: _,
+        } => super::mine(Access::StoreCount(words::add(tail, pops))),
         OwnPlace::PopRead { at } => super::mine(Access::Read(at)),
         OwnPlace::NextItem => drain_wants(s),
         OwnPlace::DropItem => drain_wants(s),
@@ -101,13 +169,15 @@ pub fn wants(place: OwnPlace, s: Sight) -> Wanted
 }
 
 fn extended(s: Sight, pops: u32, tail: u32, limit: u32, written: u32, seen: Seen) -> Next
-    ensures {
-        λ r. ⌜ Vw.viewNext r
-            ≡ T.extendRow width (Vw.viewSight s) (Vw.viewMark (s .mark)) pops tail limit written .after (Vw.viewSeen seen) ⌝
-    }
+    ensures { λ r. ⌜ Vw.viewNext r
+        ≡ T.extendRow width (Vw.viewSight s) (Vw.viewMark (s .mark)) pops tail limit written .after (Vw.viewSeen seen) ⌝ }
 {
     let mark = s.mark;
-    let store = OwnPlace::ExtendStore { pops: pops, tail: tail, written: written };
+    let store = OwnPlace::ExtendStore {
+        pops: pops,
+        tail: tail,
+        written: written,
+    };
     match mark {
         Mark::Carry(token) => {
             let more = extending(pops, words::add(tail, 1), limit, words::add(written, 1));
@@ -129,9 +199,19 @@ fn drained(s: Sight, token: u64) -> Next
     if at == end {
         let kind = s.kind;
         let place = Place::Close(Ending::Item(token), super::closing::first(kind, end));
-        Next { place: place, drain: drain, answer: Answer::Pending, deed: Deed::Drained }
+        Next {
+            place: place,
+            drain: drain,
+            answer: Answer::Pending,
+            deed: Deed::Drained,
+        }
     } else {
-        Next { place: Place::Idle, drain: drain, answer: Answer::Item(token), deed: Deed::Drained }
+        Next {
+            place: Place::Idle,
+            drain: drain,
+            answer: Answer::Item(token),
+            deed: Deed::Drained,
+        }
     }
 }
 
@@ -144,9 +224,19 @@ fn dropping(s: Sight) -> Next
     if at == end {
         let kind = s.kind;
         let place = Place::Close(Ending::Dropped, super::closing::first(kind, end));
-        Next { place: place, drain: drain, answer: Answer::Pending, deed: Deed::Dropped(1) }
+        Next {
+            place: place,
+            drain: drain,
+            answer: Answer::Pending,
+            deed: Deed::Dropped(1),
+        }
     } else {
-        Next { place: Place::Own(OwnPlace::DropItem), drain: drain, answer: Answer::Pending, deed: Deed::Dropped(1) }
+        Next {
+            place: Place::Own(OwnPlace::DropItem),
+            drain: drain,
+            answer: Answer::Pending,
+            deed: Deed::Dropped(1),
+        }
     }
 }
 
@@ -174,12 +264,29 @@ pub fn advance(place: OwnPlace, s: Sight, seen: Seen) -> Next
     ensures { λ r. ⌜ Vw.viewNext r ≡ T.ownRow width (Vw.viewSight s) (Vw.viewOwnPlace place) .after (Vw.viewSeen seen) ⌝ }
 {
     match place {
-        OwnPlace::PushWrite { token, word, tail: _ } => {
-            super::on(s, Place::Own(OwnPlace::PushStore { word: word }), Deed::Offered(token))
+        OwnPlace::PushWrite {
+            token,
+            word,
+            tail: _,
+        } => {
+            super::on(
+                s,
+                Place::Own(OwnPlace::PushStore { word: word }),
+                Deed::Offered(token),
+            )
         }
         OwnPlace::PushStore { word: _ } => super::ends(s, Answer::Pushed, Deed::Accepted),
-        OwnPlace::ExtendMore { pops, tail, limit, written } => extended(s, pops, tail, limit, written, seen),
-        OwnPlace::ExtendStore { pops: _, tail: _, written } => super::ends(s, Answer::Extended(written), Deed::Accepted),
+        OwnPlace::ExtendMore {
+            pops,
+            tail,
+            limit,
+            written,
+        } => extended(s, pops, tail, limit, written, seen),
+        OwnPlace::ExtendStore {
+            pops: _,
+            tail: _,
+            written,
+        } => super::ends(s, Answer::Extended(written), Deed::Accepted),
         OwnPlace::PopRead { at: _ } => super::ends(s, Answer::Popped(seen.token), Deed::Nothing),
         OwnPlace::NextItem => next_item(s, seen),
         OwnPlace::DropItem => drop_item(s, seen),

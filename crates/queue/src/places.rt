@@ -4,8 +4,25 @@ ghost use Rattle.tables.specs.Rule as R;
 ghost use Rattle.tables.specs.Access as X;
 ghost use Rattle.tables.specs.Tables as T;
 ghost use Rattle.queue.specs.View as Vw;
-
-use super::{Access, BookPlace, Call, ClosePlace, Ending, Errand, FifoPlace, Fill, Goal, Haul, Job, Kind, LifoPlace, Mark, MovePlace, OwnPlace, Place, Rule, Wish};
+use super::Access;
+use super::BookPlace;
+use super::Call;
+use super::ClosePlace;
+use super::Ending;
+use super::Errand;
+use super::FifoPlace;
+use super::Fill;
+use super::Goal;
+use super::Haul;
+use super::Job;
+use super::Kind;
+use super::LifoPlace;
+use super::Mark;
+use super::MovePlace;
+use super::OwnPlace;
+use super::Place;
+use super::Rule;
+use super::Wish;
 
 pub fn is_idle(place: Place) -> bool
     ensures { λ r. ⌜ r ≡ T.isIdle (Vw.viewPlace place) ⌝ }
@@ -36,7 +53,11 @@ fn lifo_source(who: u64, place: LifoPlace) -> u64
     match place {
         LifoPlace::LoadCount(job) => job_source(who, job),
         LifoPlace::LoadPacked { job, count: _ } => job_source(who, job),
-        LifoPlace::LoadDone { job, count: _, packed: _ } => job_source(who, job),
+        LifoPlace::LoadDone {
+            job,
+            count: _,
+            packed: _,
+        } => job_source(who, job),
         LifoPlace::PopPacked => who,
         LifoPlace::PopCount { packed: _ } => who,
         LifoPlace::PopCas { packed: _, tail: _ } => who,
@@ -75,7 +96,11 @@ fn move_source(place: MovePlace) -> u64
 {
     match place {
         MovePlace::ReadSlot { trip, moved: _ } => trip.source,
-        MovePlace::WriteSlot { trip, moved: _, token: _ } => trip.source,
+        MovePlace::WriteSlot {
+            trip,
+            moved: _,
+            token: _,
+        } => trip.source,
         MovePlace::Land { trip, last: _ } => trip.source,
     }
 }
@@ -85,7 +110,11 @@ fn ending_source(who: u64, ending: Ending) -> u64
 {
     match ending {
         Ending::Stolen { source, count: _ } => source,
-        Ending::Taken { source, token: _, count: _ } => source,
+        Ending::Taken {
+            source,
+            token: _,
+            count: _,
+        } => source,
         Ending::Item(_) => who,
         Ending::Dropped => who,
     }
@@ -131,10 +160,17 @@ fn has_booking(from: Kind, place: BookPlace) -> bool
         BookPlace::LifoPacked => is_lifo(from),
         BookPlace::LifoDone { packed: _ } => is_lifo(from),
         BookPlace::LifoCount { packed: _, done: _ } => is_lifo(from),
-        BookPlace::LifoCas { packed: _, done: _, count: _ } => is_lifo(from),
+        BookPlace::LifoCas {
+            packed: _,
+            done: _,
+            count: _,
+        } => is_lifo(from),
         BookPlace::FifoPacked => is_fifo(from),
         BookPlace::FifoTail { packed: _ } => is_fifo(from),
-        BookPlace::FifoCas { packed: _, count: _ } => is_fifo(from),
+        BookPlace::FifoCas {
+            packed: _,
+            count: _,
+        } => is_fifo(from),
     }
 }
 
@@ -181,10 +217,17 @@ fn book_wish(goal: Goal, place: BookPlace) -> Wish
         BookPlace::LifoPacked => Wish::Nothing,
         BookPlace::LifoDone { packed: _ } => Wish::Nothing,
         BookPlace::LifoCount { packed: _, done: _ } => rule_wish(super::book::rule_of(goal)),
-        BookPlace::LifoCas { packed: _, done: _, count: _ } => Wish::Nothing,
+        BookPlace::LifoCas {
+            packed: _,
+            done: _,
+            count: _,
+        } => Wish::Nothing,
         BookPlace::FifoPacked => Wish::Nothing,
         BookPlace::FifoTail { packed: _ } => rule_wish(super::book::rule_of(goal)),
-        BookPlace::FifoCas { packed: _, count: _ } => Wish::Nothing,
+        BookPlace::FifoCas {
+            packed: _,
+            count: _,
+        } => Wish::Nothing,
     }
 }
 
@@ -192,10 +235,23 @@ fn own_wish(place: OwnPlace) -> Wish
     ensures { λ r. ⌜ Vw.viewWish r ≡ T.ownWish (Vw.viewOwnPlace place) ⌝ }
 {
     match place {
-        OwnPlace::PushWrite { token: _, word: _, tail: _ } => Wish::Nothing,
+        OwnPlace::PushWrite {
+            token: _,
+            word: _,
+            tail: _,
+        } => Wish::Nothing,
         OwnPlace::PushStore { word: _ } => Wish::Nothing,
-        OwnPlace::ExtendMore { pops: _, tail: _, limit: _, written: _ } => Wish::Token,
-        OwnPlace::ExtendStore { pops: _, tail: _, written: _ } => Wish::Nothing,
+        OwnPlace::ExtendMore {
+            pops: _,
+            tail: _,
+            limit: _,
+            written: _,
+        } => Wish::Token,
+        OwnPlace::ExtendStore {
+            pops: _,
+            tail: _,
+            written: _,
+        } => Wish::Nothing,
         OwnPlace::PopRead { at: _ } => Wish::Nothing,
         OwnPlace::NextItem => Wish::Nothing,
         OwnPlace::DropItem => Wish::Nothing,
@@ -290,7 +346,11 @@ pub fn mark_fits(wish: Wish, cas: bool, mark: Mark) -> bool
 fn errand(source: u64, rule: Rule, haul: Haul) -> Errand
     ensures { λ r. ⌜ Vw.viewErrand r ≡ T.errand source (Vw.viewRule rule) (Vw.viewHaul haul) ⌝ }
 {
-    Errand { source: source, rule: rule, haul: haul }
+    Errand {
+        source: source,
+        rule: rule,
+        haul: haul,
+    }
 }
 
 fn start_lifo(call: Call) -> Place
@@ -303,8 +363,16 @@ fn start_lifo(call: Call) -> Place
         Call::Drain(rule) => Place::Book(Goal::Drain(rule), BookPlace::LifoPacked),
         Call::Next => Place::Own(OwnPlace::NextItem),
         Call::Drop => Place::Own(OwnPlace::DropItem),
-        Call::Steal { source, rule } => Place::Lifo(LifoPlace::LoadCount(Job::Brings(errand(source, rule, Haul::Steals)))),
-        Call::Take { source, rule } => Place::Lifo(LifoPlace::LoadCount(Job::Brings(errand(source, rule, Haul::Takes)))),
+        Call::Steal { source, rule } => Place::Lifo(LifoPlace::LoadCount(Job::Brings(errand(
+            source,
+            rule,
+            Haul::Steals,
+        )))),
+        Call::Take { source, rule } => Place::Lifo(LifoPlace::LoadCount(Job::Brings(errand(
+            source,
+            rule,
+            Haul::Takes,
+        )))),
         Call::Spare => Place::Lifo(LifoPlace::LoadCount(Job::Fills(Fill::Spare))),
         Call::Empty => Place::Lifo(LifoPlace::EmptyCount),
     }
@@ -320,8 +388,16 @@ fn start_fifo(call: Call) -> Place
         Call::Drain(rule) => Place::Book(Goal::Drain(rule), BookPlace::FifoPacked),
         Call::Next => Place::Own(OwnPlace::NextItem),
         Call::Drop => Place::Own(OwnPlace::DropItem),
-        Call::Steal { source, rule } => Place::Fifo(FifoPlace::DestTail(errand(source, rule, Haul::Steals))),
-        Call::Take { source, rule } => Place::Fifo(FifoPlace::DestTail(errand(source, rule, Haul::Takes))),
+        Call::Steal { source, rule } => Place::Fifo(FifoPlace::DestTail(errand(
+            source,
+            rule,
+            Haul::Steals,
+        ))),
+        Call::Take { source, rule } => Place::Fifo(FifoPlace::DestTail(errand(
+            source,
+            rule,
+            Haul::Takes,
+        ))),
         Call::Spare => Place::Fifo(FifoPlace::LoadPacked(Fill::Spare)),
         Call::Empty => Place::Fifo(FifoPlace::EmptyPacked),
     }

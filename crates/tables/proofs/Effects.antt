@@ -19,7 +19,7 @@ use Rattle.tables.specs.Effect as E
 use Rattle.tables.specs.Effect.{Deed, isNothing, drops, Effect}
 use Rattle.tables.specs.Row.{Sight, Row, Whose, mine}
 use Rattle.tables.specs.Tables.{rowOf, wishOf, wishes}
-use Rattle.tables.specs.Step.{andb, kindAt, placeAt, sourceAt, sightOf, rowAt, site, siteAt, accessAt, nextAt, effectOf, taken, Alone, appended, noted, stops, onward, runs, still, alone}
+use Rattle.tables.specs.Step.{andb, placeAt, sourceAt, sightOf, rowAt, site, siteAt, accessAt, nextAt, effectOf, taken, Alone, appended, noted, stops, onward, runs, still, alone}
 use Rattle.tables.proofs.Bools.{neither, pick-if, pick-yes, and-both}
 use Rattle.tables.proofs.Left.{left, left-most, dropsAt, effects}
 use Rattle.tables.proofs.Places.{Goes, goes}
@@ -221,15 +221,16 @@ module _ (w : ℕ) (s : Sight) (p : Place) (x : Seen) {l : List Effect} (e : Eff
     where
       leads : Goes (λ q. lifo) 0 s p (rowOf w s p .after x)
       leads = goes (λ q. lifo) 0 w s p x
+
       at : (t : Bool) → dropsAt p ≡ t → FewAt (rowOf w s p .after x .place) (noted l e)
       at false d = record {
-          count = omega (arith, noted-length l e, leads .fewer h d, f .count, ap effects is);
-          only = λ i. absurd (true≢false (sym i ∙ leads .onto d))
-        }
+        count = omega (arith, noted-length l e, leads .fewer h d, f .count, ap effects is);
+        only = λ i. absurd (true≢false (sym i ∙ leads .onto d));
+      }
       at true d = record {
-          count = omega (arith, only-length (noted l e) (only-noted d), drops-row w s p x d .small);
-          only = λ i. only-noted d
-        }
+        count = omega (arith, only-length (noted l e) (only-noted d), drops-row w s p x d .small);
+        only = λ i. only-noted d;
+      }
 
 pub record Few (who : ℕ) (r : Alone) : Type 0 where
   pub few : FewAt (placeAt (r .machine) who) (r .effects)
@@ -238,12 +239,12 @@ module _ (w who : ℕ) (r : Alone) (f : Few who r) (h : stops who r ≡ false) w
   pub turn-few : Few who (onward r (taken w (r .machine) (r .items) who plain))
   unfolding taken
   turn-few = record {
-      few = rw (place-after w (r .machine) (r .items) who plain)
+    few = rw (place-after w (r .machine) (r .items) who plain)
         (few-on w (sightOf (r .machine) who plain) (placeAt (r .machine) who) (accessAt w (r .machine) (r .items) who plain .seen)
         (taken w (r .machine) (r .items) who plain .effect) (f .few)
         (neither (not (isPending (r .answer))) (wishes (wishOf (placeAt (r .machine) who))) h .1)
-        (effect-deed who (siteAt w (r .machine) who plain) (sourceAt (r .machine) who) (nextAt w (r .machine) (r .items) who plain .deed)))
-    }
+        (effect-deed who (siteAt w (r .machine) who plain) (sourceAt (r .machine) who) (nextAt w (r .machine) (r .items) who plain .deed)));
+  }
 
 module _ (w who : ℕ) where
   -- from any place, with no effect yet

@@ -14,4 +14,5 @@ pub mod Steps
 pub mod Alone
 pub mod Effects
 pub mod Opening
+pub mod OpenSound
 pub mod Updates

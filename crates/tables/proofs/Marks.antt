@@ -5,7 +5,7 @@ use mathlib.Core.Bool.{Bool, true, false, true≢false}
 use lib.Dec.{eqb}
 use Rattle.words.specs.Word.{pick}
 use Rattle.tables.specs.Rule.{Rule, all, half, fixed, given, Mark, plain, weak, carry, end}
-use Rattle.tables.specs.Errand.{Goal, drain}
+use Rattle.tables.specs.Errand.{Goal}
 use Rattle.tables.specs.LifoPlace as L
 use Rattle.tables.specs.LifoPlace.{LifoPlace}
 use Rattle.tables.specs.FifoPlace as F

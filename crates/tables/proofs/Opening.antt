@@ -1,6 +1,6 @@
--- What opening gives: each queue opened as it was asked, every party idle; not refused, a sound record.
+-- What opening gives: each queue opened as it was asked, every party idle.
 use Prim.Native.Nat.{ℕ, zero, suc, _-_, _^_, _≤_, _<_}
-use mathlib.Core.Path.{_≡_, refl, sym, ap, subst, _∙_}
+use mathlib.Core.Path.{_≡_, refl, ap, _∙_}
 use mathlib.Core.Bool.{true, false}
 use mathlib.Core.List.{List, [], _∷_}
 use mathlib.Core.Logic.{⊎-elim}
@@ -13,11 +13,10 @@ use lib.Seq.{getD-set-same, getD-set-other}
 use Rattle.words.specs.Word.{powBelow, capacityOf}
 use Rattle.words.proofs.Doubling.{capacity-power}
 use Rattle.tables.specs.Rule.{Kind, lifo, fifo}
-use Rattle.tables.specs.Machine.{Queue, Party, Machine, idleParty, zeroQueue, queueAt}
-use Rattle.tables.specs.Step.{kindAt, openQueue, openTo, overTo, closedQueues, idleParties, tables, Opened, openQueues, opening, placeAt, sound}
+use Rattle.tables.specs.Machine.{Queue, Machine, idleParty, zeroQueue, queueAt}
+use Rattle.tables.specs.Step.{openQueue, openTo, overTo, closedQueues, idleParties, tables, openQueues}
 use Rattle.tables.proofs.Bools.{neither}
-use Rattle.tables.proofs.Sound.{Sound, Placed, facts-sound}
-use Rattle.tables.proofs.Refused.{CanOpen, open-needs, opening-if}
+use Rattle.tables.proofs.Refused.{CanOpen}
 
 pub closed-length : (n : ℕ) (ks : List Kind) → length (closedQueues n ks) ≡ n
 unfolding closedQueues
@@ -94,16 +93,3 @@ module _ (w most : ℕ) (ks : List Kind) (n : ℕ) (rs ps : List ℕ) (lent : �
   opened-power p q h =
       rw (opened-queue q h, open-capacity w (getD ks q lifo) (getD rs q 0) (getD ps q 0))
       (capacity-power w (requests-small w ks rs ps n (c .requests) q h) p)
-
-  pub opened-placed : (q : ℕ) → q < n → Placed (kindAt machine) n q (placeAt machine q)
-  opened-placed q h =
-      subst (λ (p : Party). Placed (kindAt machine) n q (p .place)) (sym (idle-at most q)) (record { source = h; kind = refl })
-
-  pub opened-sound : 0 < w → Sound w most machine lent
-  opened-sound p = record { some = c .some; few = c .few; power = opened-power p; placed = opened-placed; fits = c .fits }
-
-pub opening-sound : (w most : ℕ) (ks : List Kind) (n : ℕ) (rs ps : List ℕ) (lent : ℕ) → 0 < w
-    → opening w most ks n rs ps lent .refusal ≡ 0 → sound w most (opening w most ks n rs ps lent .machine) lent ≡ true
-opening-sound w most ks n rs ps lent p =
-    opening-if w most ks n rs ps lent (λ (o : Opened). o .refusal ≡ 0 → sound w most (o .machine) lent ≡ true)
-    (λ e h. facts-sound w most _ lent (opened-sound w most ks n rs ps lent (open-needs w most ks n rs ps lent e) p)) (λ e h. absurd (e h))

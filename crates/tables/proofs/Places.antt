@@ -22,7 +22,7 @@ use Rattle.tables.specs.Answer.{Answer, isPending}
 use Rattle.tables.specs.Effect as E
 use Rattle.tables.specs.Effect.{Deed, drops}
 use Rattle.tables.specs.Row.{Sight, Next, Row, on, ends}
-use Rattle.tables.specs.Table.{booking, closing, answerOf, filled, counted, booked, limitOf, ruleOf, extendRow, drained, ownRow, moveRow, landed, lastRead, lastWritten, ending}
+use Rattle.tables.specs.Table.{booking, closing, answerOf, filled, counted, booked, limitOf, ruleOf, extendRow, ownRow, moveRow, landed, lastRead, lastWritten, ending}
 use Rattle.tables.specs.LifoTable.{tailOf, restOf, lifoRow, popTest}
 use Rattle.tables.specs.FifoTable.{fifoRow}
 use Rattle.tables.specs.Tables.{bookRow, closeRow, rowOf, isIdle, sourceOf, isKind, bookKind, closeKind, hasPlace, goalSource, endingSource, wishOf, wishes}

@@ -52,7 +52,7 @@ module _ (w most : ℕ) (m : Machine) (who : ℕ) (c : Call) where
       let a = zero-then (sound w most m lent) _ 1 (omega arith) e in
       let b = zero-then (ltb who (m .parties)) _ 2 (omega arith) (a .1) in
       let d = zero-then (isIdle (placeAt m who)) _ 3 (omega arith) (b .1) in
-      let f = zero-then (ltb (callSource who c) (m .parties)) _ 5 (omega arith) (d .1) in
+      let f = zero-then _ _ 5 (omega arith) (d .1) in
       record { sound-is = a .0; here = ltb-true _ _ (b .0); idle = d .0; there = ltb-true _ _ (f .0) }
 
   pub begin-can : (lent : ℕ) → CanBegin lent → beginRefusal w most m lent who c ≡ 0

@@ -106,14 +106,14 @@ fillOf l = length (l .resting) + l .kept
 -- Noted at a step of party `who` that the machine m takes: the lists before and after it, the queue and the deed of its effect.
 unfoldable pub notes : Machine → ℕ → (before after : Plain) → (queue : ℕ) → Deed → Notes → Notes
 notes m who a a′ q d n = record {
-    moved = update (n .moved) q (n .moved q + movedBy d);
-    first = pick (isFirstLoad (placeAt m who)) (update (n .first) who (n .moved (sourceAt m who))) (n .first);
-    opened =
+  moved = update (n .moved) q (n .moved q + movedBy d);
+  first = pick (isFirstLoad (placeAt m who)) (update (n .first) who (n .moved (sourceAt m who))) (n .first);
+  opened =
       λ p.
       orb (pick (isFirstLoad (placeAt m who)) (update (n .opened) who (isOpen (a .queue (sourceAt m who) .holder))) (n .opened) p)
       (isOpen (a′ .queue (sourceAt m p) .holder));
-    fill = pick (isHeadLoad (placeAt m who)) (update (n .fill) who (fillOf (a .queue who))) (n .fill)
-  }
+  fill = pick (isHeadLoad (placeAt m who)) (update (n .fill) who (fillOf (a .queue who))) (n .fill);
+}
 
 -- ---- the premise: between a booking's first load and its success or refusal, fewer than 2 ^ (w - 1) items are popped or booked there
 

@@ -76,12 +76,12 @@ popKept fifo h k = pick (isOpen h) (k + 1) k
 
 unfoldable pub pop : Kind → Lists → Lists
 pop k l = record {
-    waiting = l .waiting;
-    resting = popRest k (l .resting);
-    booked = l .booked;
-    holder = l .holder;
-    kept = popKept k (l .holder) (l .kept)
-  }
+  waiting = l .waiting;
+  resting = popRest k (l .resting);
+  booked = l .booked;
+  holder = l .holder;
+  kept = popKept k (l .holder) (l .kept);
+}
 
 -- booked takes the first count
 unfoldable pub book : ℕ → ℕ → Lists → Lists

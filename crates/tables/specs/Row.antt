@@ -35,7 +35,6 @@ pub record Row : Type 0 where
 
 infix 10 own_then_
 infix 10 source_then_
-
 abbrev pub own_then_ : Access → (Seen → Next) → Row
 own a then f = record { whose = mine; access = a; after = f }
 

@@ -133,12 +133,12 @@ sourceAt m who = sourceOf who (placeAt m who)
 
 abbrev pub sightOf : Machine → ℕ → Mark → Sight
 sightOf m who mark = record {
-    kind = kindAt m who;
-    capacity = queueAt m who .capacity;
-    from = kindAt m (sourceAt m who);
-    drain = partyAt m who .drain;
-    mark = mark
-  }
+  kind = kindAt m who;
+  capacity = queueAt m who .capacity;
+  from = kindAt m (sourceAt m who);
+  drain = partyAt m who .drain;
+  mark = mark;
+}
 
 abbrev pub rowAt : ℕ → Machine → ℕ → Mark → Row
 rowAt w m who mark = rowOf w (sightOf m who mark) (placeAt m who)
@@ -182,22 +182,22 @@ effectOf p q s E.closed = record { party = p; queue = q; deed = E.closed }
 -- one place of each table is changed
 abbrev pub stored : Machine → (who site : ℕ) → Next → Queue → Machine
 stored m who i n q = record {
-    parties = m .parties;
-    party = set (m .party) who (record { place = n .place; drain = n .drain });
-    queue = set (m .queue) i q
-  }
+  parties = m .parties;
+  party = set (m .party) who (record { place = n .place; drain = n .drain });
+  queue = set (m .queue) i q;
+}
 
 -- a step that nothing refuses
 unfoldable pub taken : ℕ → Machine → List ℕ → ℕ → Mark → Outcome
 taken w m xs who mark = record {
-    machine = stored m who (siteAt w m who mark) (nextAt w m xs who mark) (accessAt w m xs who mark .queue);
-    items =
+  machine = stored m who (siteAt w m who mark) (nextAt w m xs who mark) (accessAt w m xs who mark .queue);
+  items =
       restretched (baseOf (siteAt w m who mark) (m .queue)) (queueAt m (siteAt w m who mark) .capacity)
       (accessAt w m xs who mark .slots) xs;
-    answer = nextAt w m xs who mark .answer;
-    effect = effectOf who (siteAt w m who mark) (sourceAt m who) (nextAt w m xs who mark .deed);
-    refusal = 0
-  }
+  answer = nextAt w m xs who mark .answer;
+  effect = effectOf who (siteAt w m who mark) (sourceAt m who) (nextAt w m xs who mark .deed);
+  refusal = 0;
+}
 
 -- no call; a mark that does not fit
 abbrev pub markRefusal : ℕ → Sight → Place → ℕ
@@ -243,13 +243,13 @@ stops who r = orb (not (isPending (r .answer))) (wishes (wishOf (placeAt (r .mac
 
 abbrev pub onward : Alone → Outcome → Alone
 onward r o = record {
-    machine = o .machine;
-    items = o .items;
-    answer = o .answer;
-    effects = noted (r .effects) (o .effect);
-    steps = r .steps + 1;
-    refusal = 0
-  }
+  machine = o .machine;
+  items = o .items;
+  answer = o .answer;
+  effects = noted (r .effects) (o .effect);
+  steps = r .steps + 1;
+  refusal = 0;
+}
 
 unfoldable pub runs : ℕ → ℕ → (budget : ℕ) → Alone → Alone
 runs w who zero r = r

@@ -92,21 +92,21 @@ extendRow w s weak pops tail limit written = own touch then λ x. on s (P.own (P
 -- next: read one; after the last one a further step first closes
 abbrev pub drained : ℕ → Sight → (token : ℕ) → Next
 drained w s t = record {
-    place = pick (eqb (plus w (s .drain .at) 1) (s .drain .end)) (P.close (G.item t) (closing (s .kind) (s .drain .end))) P.idle;
-    drain = record { at = plus w (s .drain .at) 1; end = s .drain .end };
-    answer = pick (eqb (plus w (s .drain .at) 1) (s .drain .end)) A.pending (A.item t);
-    deed = E.drained
-  }
+  place = pick (eqb (plus w (s .drain .at) 1) (s .drain .end)) (P.close (G.item t) (closing (s .kind) (s .drain .end))) P.idle;
+  drain = record { at = plus w (s .drain .at) 1; end = s .drain .end };
+  answer = pick (eqb (plus w (s .drain .at) 1) (s .drain .end)) A.pending (A.item t);
+  deed = E.drained;
+}
 
 -- drop: reads the rest, one a step, then closes
 abbrev pub dropping : ℕ → Sight → Next
 dropping w s = record {
-    place =
+  place =
       pick (eqb (plus w (s .drain .at) 1) (s .drain .end)) (P.close G.dropped (closing (s .kind) (s .drain .end))) (P.own P.dropItem);
-    drain = record { at = plus w (s .drain .at) 1; end = s .drain .end };
-    answer = A.pending;
-    deed = E.dropped 1
-  }
+  drain = record { at = plus w (s .drain .at) 1; end = s .drain .end };
+  answer = A.pending;
+  deed = E.dropped 1;
+}
 
 abbrev pub ownRow : ℕ → Sight → OwnPlace → Row
 ownRow w s (P.pushWrite t word tail) = own write tail t then λ x. on s (P.own (P.pushStore word)) (E.offered t)

@@ -1,6 +1,6 @@
 use borrow.Author.Needs.{needs}
-use Prim.Native.Nat.{ℕ, _+_, _-_, _*_, _%_, _≤_, _<_}
-use mathlib.Core.Path.{_≡_, refl, sym, ap, subst, _∙_}
+use Prim.Native.Nat.{ℕ, _+_, _-_, _*_, _%_, _≤_}
+use mathlib.Core.Path.{refl, sym, ap, subst, _∙_}
 use native.Mathlib.Omega.{arith}
 use Rattle.words.specs.Edition.{width}
 use Rattle.queue.specs.View.{viewKind}
@@ -11,8 +11,6 @@ use Rattle.machine.proofs.Surveys.{Surveyed, survey-none, few-bound}
 use Rattle.machine.proofs.Applied.{more, ready, applied}
 use Rattle.machine.proofs.apply.Statement.{statement}
 use Rattle.machine.proofs.apply.Tie as tie
-use Rattle.machine.proofs.apply.Lts as lts
-use Rattle.machine.proofs.apply.Reads as reads
 
 abbrev Inv-loop : tie.InvT-loop
 Inv-loop items who act m kind parties x party from y own source bound s₀ i₀ s i =
@@ -36,9 +34,12 @@ apply-spec =
     (λ c. search needs)
     (λ c κs. search needs)
     (λ c κs. search needs)
-    (λ c. let z = c .before .before .before .before .before .before .before in let a = z .args in let m = a .t1 in let k = viewKind (m .kind) in let mm = viewMachine m in let pn = parties-many m (z .good .0) in let qn = queues-many m (z .good .0) in
-      (omega arith, few-bound most (m .parties) (c .before .bound .ensures), omega (arith, ap (λ (s : Survey). s .total) (c .nothing .ensures)),
-        subst (λ (s : Survey). Surveyed width mm (a .who) (c .before .before .before .before .source-of .result) 0 s) (sym (c .nothing .ensures)) (survey-none width mm (a .who) (c .before .before .before .before .source-of .result))))
+    (λ c. let z = c .before .before .before .before .before .before .before in let a = z .args in let m = a .t1 in let k = viewKind (m .kind) in let mm = viewMachine m in let pn = parties-many m (z .good .0) in let qn = queues-many m (z .good .0) in (
+      omega arith,
+      few-bound most (m .parties) (c .before .bound .ensures),
+      omega (arith, ap (λ (s : Survey). s .total) (c .nothing .ensures)),
+      subst (λ (s : Survey). Surveyed width mm (a .who) (c .before .before .before .before .source-of .result) 0 s) (sym (c .nothing .ensures)) (survey-none width mm (a .who) (c .before .before .before .before .source-of .result)),
+    ))
     (λ c. search needs)
     (λ c. search needs)
     (λ c. search needs)
@@ -46,19 +47,22 @@ apply-spec =
     (λ c κs. omega (arith, c .before .before .before .loop .inv .0, c .before .before .before .loop .inv .1, c .before .before .before .loop .inv .2, c .before .before .loop-test .taken))
     (λ c. search needs)
     (λ c. search needs)
-    (λ c. let z = c .before .before .before .before .before .before .before .before .before .before .before .before in let a = z .args in let m = a .t1 in let pn = parties-many m (z .good .0) in let qn = queues-many m (z .good .0) in let v = c .before .before .before .before .loop in let f = c .before .before .before .before .before .before .before .before .before .source-of .result in
-      (omega (arith, c .before .before .before .loop-test .taken), v .inv .1, omega (arith, v .inv .2, c .surveyed .ensures .1),
-        subst (λ (s : Survey). Surveyed width (viewMachine m) (a .who) f (v .i + 1) s) (sym (c .surveyed .ensures .0))
-        (more m pn qn (a .who) f (c .before .before .before .before .before .before .bound .result) (c .before .before .before .before .before .before .bound .ensures) (v .i) (viewSurvey (v .s)) (c .before .before .before .loop-test .taken) (v .inv .3))))
+    (λ c. let z = c .before .before .before .before .before .before .before .before .before .before .before .before in let a = z .args in let m = a .t1 in let pn = parties-many m (z .good .0) in let qn = queues-many m (z .good .0) in let v = c .before .before .before .before .loop in let f = c .before .before .before .before .before .before .before .before .before .source-of .result in (
+      omega (arith, c .before .before .before .loop-test .taken),
+      v .inv .1,
+      omega (arith, v .inv .2, c .surveyed .ensures .1),
+      subst (λ (s : Survey). Surveyed width (viewMachine m) (a .who) f (v .i + 1) s) (sym (c .surveyed .ensures .0))
+          (more m pn qn (a .who) f (c .before .before .before .before .before .before .bound .result) (c .before .before .before .before .before .before .bound .ensures) (v .i) (viewSurvey (v .s)) (c .before .before .before .loop-test .taken) (v .inv .3)),
+    ))
     (λ c κs. search needs)
     (λ c κs. let z = c .before .before .before .before .before .before .before .before .before .before .before in let a = z .args in let m = a .t1 in let pn = parties-many m (z .good .0) in let qn = queues-many m (z .good .0) in let v = c .before .before .before .loop in let f = c .before .before .before .before .before .before .before .before .source-of .result in let b = c .before .before .before .before .before .bound in
-      ready m pn qn (a .who) f (b .result) (b .ensures) (a .items .now) (viewSurvey (v .s))
-      (subst (λ (n : ℕ). Surveyed width (viewMachine m) (a .who) f n (viewSurvey (v .s))) (omega (arith, v .inv .0, c .before .before .loop-test .left)) (v .inv .3))
-      (a .who % 16) (f % 16) refl refl (c .before .before .before .before .before .before .before .before .source-of .ensures) (c .before .passed .result) (c .before .passed .ensures))
+    ready m pn qn (a .who) f (b .result) (b .ensures) (a .items .now) (viewSurvey (v .s))
+    (subst (λ (n : ℕ). Surveyed width (viewMachine m) (a .who) f n (viewSurvey (v .s))) (omega (arith, v .inv .0, c .before .before .loop-test .left)) (v .inv .3))
+    (a .who % 16) (f % 16) refl refl (c .before .before .before .before .before .before .before .before .source-of .ensures) (c .before .passed .result) (c .before .passed .ensures))
     (λ c κs. search needs)
     (λ c. search needs)
     (λ c. let z = c .before .before .before .before .before .before .before .before .before .before .before .before .before .before .before in let a = z .args in let m = a .t1 in let pn = parties-many m (z .good .0) in let qn = queues-many m (z .good .0) in let v = c .before .before .before .before .before .before .before .loop in let f = c .before .before .before .before .before .before .before .before .before .before .before .before .source-of .result in let b = c .before .before .before .before .before .before .before .before .before .bound in
-      c .put-back .ensures (c .before .before .before .turned .last .1 .1 .1 .1 .1 .0) ∙
-      applied m pn qn (a .who) f (b .result) (b .ensures) (a .items .now) (viewSurvey (v .s))
-      (subst (λ (n : ℕ). Surveyed width (viewMachine m) (a .who) f n (viewSurvey (v .s))) (omega (arith, v .inv .0, c .before .before .before .before .before .before .loop-test .left)) (v .inv .3))
-      (a .who % 16) (f % 16) refl refl (c .before .before .before .before .before .before .before .before .before .before .before .before .source-of .ensures) (c .before .before .before .before .before .passed .result) (c .before .before .before .before .before .passed .ensures) (viewAct (a .act)) (c .before .before .before .turned .ensures)))
+    c .put-back .ensures (c .before .before .before .turned .last .1 .1 .1 .1 .1 .0) ∙
+    applied m pn qn (a .who) f (b .result) (b .ensures) (a .items .now) (viewSurvey (v .s))
+    (subst (λ (n : ℕ). Surveyed width (viewMachine m) (a .who) f n (viewSurvey (v .s))) (omega (arith, v .inv .0, c .before .before .before .before .before .before .loop-test .left)) (v .inv .3))
+    (a .who % 16) (f % 16) refl refl (c .before .before .before .before .before .before .before .before .before .before .before .before .source-of .ensures) (c .before .before .before .before .before .passed .result) (c .before .before .before .before .before .passed .ensures) (viewAct (a .act)) (c .before .before .before .turned .ensures)))

@@ -23,11 +23,11 @@ put-back-spec =
       machine = record {
         parties = a .m .parties;
         party = map-set viewParty (a .m .party) (a .x) (a .t .desk .party) i;
-        queue = (map-set f (set (a .m .queue) (a .y) (a .t .desk .source)) (a .x) (a .t .desk .own) ∙ ap (λ (l : List Queue). set l (a .x) (f (a .t .desk .own))) (map-set f (a .m .queue) (a .y) (a .t .desk .source))) i
+        queue = (map-set f (set (a .m .queue) (a .y) (a .t .desk .source)) (a .x) (a .t .desk .own) ∙ ap (λ (l : List Queue). set l (a .x) (f (a .t .desk .own))) (map-set f (a .m .queue) (a .y) (a .t .desk .source))) i;
       };
       items = xs;
       answer = viewAnswer (a .t .answer);
       effects = viewEffects (a .t .effects);
       steps = a .t .steps;
-      refusal = a .t .refusal
+      refusal = a .t .refusal;
     }))

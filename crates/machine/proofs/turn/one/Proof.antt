@@ -7,9 +7,9 @@ use Rattle.words.specs.Edition.{width}
 use Rattle.tables.proofs.Bases.{stretch-length}
 use Rattle.words.proofs.Powers.{pow-positive}
 use Rattle.queue.specs.View.{viewKind, viewMark, viewAccessed}
-use Rattle.machine.specs.Desk.{Reach, reach}
+use Rattle.machine.specs.Desk.{Reach}
 use Rattle.machine.specs.View.{viewLook, viewDesk, viewReached, viewDid}
-use Rattle.machine.proofs.Turns.{Within, within-of, ready-reach, one-is, size-is}
+use Rattle.machine.proofs.Turns.{within-of, one-is, size-is}
 use Rattle.machine.proofs.turn.one.Statement.{statement}
 use Rattle.machine.proofs.turn.one.Tie as tie
 
@@ -29,4 +29,4 @@ one-spec =
     (λ c κs. let s = c .before .before .before .before .before .before .before .before .before in omega (arith, ap (λ (x : Reach). x .sight .capacity) (c .before .before .before .before .before .before .before .reached .ensures), pow-positive (s .pre .own-power)))
     (λ c. search needs)
     (λ c. let s = c .before .before .before .before .before .before .before .before .before .before in let k = viewKind (s .args .kind) in let r = c .before .before .before .before .before .before .before .before .reached .result in let part = c .before .before .before .perform .last .1 .0 in
-      one-is width (viewLook (s .args .look)) (viewDesk k (s .args .desk)) (s .args .items .now) (viewMark (s .args .mark)) (viewReached k r) (r .base + r .queue .capacity - r .base) (viewAccessed k (c .before .before .before .perform .result) part) (λ (ys : List ℕ). viewDid k (c .went .result) ys) (c .before .before .before .before .before .before .before .before .reached .ensures) (size-is (r .base) (r .queue .capacity)) (rw (c .before .before .before .before .is-weak .ensures) at (c .before .before .before .perform .ensures k)) (λ ys. c .went .ensures k part ys)))
+    one-is width (viewLook (s .args .look)) (viewDesk k (s .args .desk)) (s .args .items .now) (viewMark (s .args .mark)) (viewReached k r) (r .base + r .queue .capacity - r .base) (viewAccessed k (c .before .before .before .perform .result) part) (λ (ys : List ℕ). viewDid k (c .went .result) ys) (c .before .before .before .before .before .before .before .before .reached .ensures) (size-is (r .base) (r .queue .capacity)) (rw (c .before .before .before .before .is-weak .ensures) at (c .before .before .before .perform .ensures k)) (λ ys. c .went .ensures k part ys)))

@@ -16,4 +16,4 @@ wants-spec =
     (λ c κs. search needs)
     (λ c. simp (c .before .before .place .given .1, c .theirs .ensures))
     (λ c. simp (c .before .enum-told .given .1, c .theirs2 .ensures))
-    (λ c. simp (c .before .before .before .before .place2 .given .1, ← (c .before .before .unpack .ensures .high-is), ← (c .before .before .unpack .ensures .low-is), ← (c .before .pack .ensures), c .theirs3 .ensures)))
+    (λ c. simp (c .before .before .before .before .place2 .given .1, ← (c .before .before .unpack .ensures .high-is), ← (c .before .pack .ensures), c .theirs3 .ensures)))

@@ -8,5 +8,5 @@ booked-spec =
     (λ c κs. search needs)
     (λ c κs. search needs)
     (λ c κs. search needs)
-    (λ c. simp (c .before .before .if1 .taken, ← (c .before .unpack .ensures .high-is), ← (c .before .unpack .ensures .low-is), c .booked .ensures))
+    (λ c. simp (c .before .before .if1 .taken, ← (c .before .unpack .ensures .high-is), c .booked .ensures))
     (λ c. simp (c .before .if1 .left, c .heads-test .ensures)))

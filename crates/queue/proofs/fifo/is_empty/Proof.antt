@@ -9,5 +9,5 @@ is-empty-spec =
     (λ c κs. search needs)
     (λ c κs. search needs)
     (λ c κs. search needs)
-    (λ c. simp (← (c .before .before .before .unpack .ensures .high-is), ← (c .before .before .before .unpack .ensures .low-is), eq-eqb _ _ (c .before .if1 .taken), c .ends .ensures))
-    (λ c. simp (← (c .before .before .before .unpack .ensures .high-is), ← (c .before .before .before .unpack .ensures .low-is), ne-eqb _ _ (c .before .if1 .left), c .ends2 .ensures)))
+    (λ c. simp (← (c .before .before .before .unpack .ensures .high-is), eq-eqb _ _ (c .before .if1 .taken), c .ends .ensures))
+    (λ c. simp (← (c .before .before .before .unpack .ensures .high-is), ne-eqb _ _ (c .before .if1 .left), c .ends2 .ensures)))

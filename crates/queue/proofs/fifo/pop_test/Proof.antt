@@ -8,5 +8,5 @@ pop-test-spec = tie.close (tie.spec
     (λ c κs. search needs)
     (λ c κs. search needs)
     (λ c κs. search needs)
-    (λ c. simp (← (c .before .before .before .unpack .ensures .high-is), ← (c .before .before .before .unpack .ensures .low-is), eq-eqb _ _ (c .before .if1 .taken), c .ends .ensures))
-    (λ c. simp (← (c .before .before .before .unpack .ensures .high-is), ← (c .before .before .before .unpack .ensures .low-is), ne-eqb _ _ (c .before .if1 .left), c .on .ensures)))
+    (λ c. simp (← (c .before .before .before .unpack .ensures .high-is), eq-eqb _ _ (c .before .if1 .taken), c .ends .ensures))
+    (λ c. simp (← (c .before .before .before .unpack .ensures .high-is), ne-eqb _ _ (c .before .if1 .left), c .on .ensures)))

@@ -7,5 +7,5 @@ popped-spec = tie.close (tie.spec
     (λ c κs. search needs)
     (λ c κs. search needs)
     (λ c κs. search needs)
-    (λ c. simp (c .before .before .if1 .taken, ← (c .before .unpack .ensures .high-is), ← (c .before .unpack .ensures .low-is), c .on .ensures))
+    (λ c. simp (c .before .before .if1 .taken, ← (c .before .unpack .ensures .high-is), c .on .ensures))
     (λ c. simp (c .before .if1 .left, c .on2 .ensures)))
