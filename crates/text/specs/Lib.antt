@@ -1,0 +1,7 @@
+-- The definitions that the contracts of `text` cite.
+pub mod Ascii
+pub mod Number
+pub mod Line
+pub mod Write
+pub mod View
+pub mod Session
