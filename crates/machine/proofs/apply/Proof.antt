@@ -8,7 +8,7 @@ use Rattle.machine.specs.Desk.{Survey}
 use Rattle.machine.specs.View.{most, viewMachine, viewSurvey, viewAct}
 use Rattle.machine.proofs.Held.{parties-many, queues-many}
 use Rattle.machine.proofs.Surveys.{Surveyed, survey-none, few-bound}
-use Rattle.machine.proofs.Applied.{more, ready, applied}
+use Rattle.machine.proofs.Applied.{by-value, more, ready, applied}
 use Rattle.machine.proofs.apply.Statement.{statement}
 use Rattle.machine.proofs.apply.Tie as tie
 
@@ -52,17 +52,17 @@ apply-spec =
       v .inv .1,
       omega (arith, v .inv .2, c .surveyed .ensures .1),
       subst (λ (s : Survey). Surveyed width (viewMachine m) (a .who) f (v .i + 1) s) (sym (c .surveyed .ensures .0))
-          (more m pn qn (a .who) f (c .before .before .before .before .before .before .bound .result) (c .before .before .before .before .before .before .bound .ensures) (v .i) (viewSurvey (v .s)) (c .before .before .before .loop-test .taken) (v .inv .3)),
+          (more (by-value m pn qn) (a .who) f (c .before .before .before .before .before .before .bound .result) (c .before .before .before .before .before .before .bound .ensures) (v .i) (viewSurvey (v .s)) (c .before .before .before .loop-test .taken) (v .inv .3)),
     ))
     (λ c κs. search needs)
     (λ c κs. let z = c .before .before .before .before .before .before .before .before .before .before .before in let a = z .args in let m = a .t1 in let pn = parties-many m (z .good .0) in let qn = queues-many m (z .good .0) in let v = c .before .before .before .loop in let f = c .before .before .before .before .before .before .before .before .source-of .result in let b = c .before .before .before .before .before .bound in
-    ready m pn qn (a .who) f (b .result) (b .ensures) (a .items .now) (viewSurvey (v .s))
+    ready (by-value m pn qn) (a .who) f (b .result) (b .ensures) (a .items .now) (viewSurvey (v .s))
     (subst (λ (n : ℕ). Surveyed width (viewMachine m) (a .who) f n (viewSurvey (v .s))) (omega (arith, v .inv .0, c .before .before .loop-test .left)) (v .inv .3))
     (a .who % 16) (f % 16) refl refl (c .before .before .before .before .before .before .before .before .source-of .ensures) (c .before .passed .result) (c .before .passed .ensures))
     (λ c κs. search needs)
     (λ c. search needs)
     (λ c. let z = c .before .before .before .before .before .before .before .before .before .before .before .before .before .before .before in let a = z .args in let m = a .t1 in let pn = parties-many m (z .good .0) in let qn = queues-many m (z .good .0) in let v = c .before .before .before .before .before .before .before .loop in let f = c .before .before .before .before .before .before .before .before .before .before .before .before .source-of .result in let b = c .before .before .before .before .before .before .before .before .before .bound in
     c .put-back .ensures (c .before .before .before .turned .last .1 .1 .1 .1 .1 .0) ∙
-    applied m pn qn (a .who) f (b .result) (b .ensures) (a .items .now) (viewSurvey (v .s))
+    applied (by-value m pn qn) (a .who) f (b .result) (b .ensures) (a .items .now) (viewSurvey (v .s))
     (subst (λ (n : ℕ). Surveyed width (viewMachine m) (a .who) f n (viewSurvey (v .s))) (omega (arith, v .inv .0, c .before .before .before .before .before .before .loop-test .left)) (v .inv .3))
     (a .who % 16) (f % 16) refl refl (c .before .before .before .before .before .before .before .before .before .before .before .before .source-of .ensures) (c .before .before .before .before .before .passed .result) (c .before .before .before .before .before .passed .ensures) (viewAct (a .act)) (c .before .before .before .turned .ensures)))
