@@ -1,0 +1,10 @@
+pub mod Cells
+pub mod Words
+pub mod Held
+pub mod Sealed
+pub mod Tables
+pub mod Machines
+pub mod Seats
+pub mod Surveying
+pub mod PutBack
+pub mod Acting

@@ -1,0 +1,20 @@
+use mathlib.Core.Path.{refl, sym, _∙_}
+use Rattle.words.specs.Edition.{width}
+use Rattle.machine.specs.View.{most, viewAct}
+use Rattle.block.specs.Held.{heldIn}
+use Rattle.block.proofs.Acting.{left-none}
+use borrow.Author.Needs.{needs}
+use Rattle.block.proofs.entry.act.Statement.{statement}
+use Rattle.block.proofs.entry.act.Tie as tie
+
+pub act-spec : {M : Type 1} → statement M
+act-spec =
+    tie.close
+    (tie.spec
+    (λ c κs. search needs)
+    (λ c κs. sym (c .before .before .before .is-block .ensures) ∙ c .before .before .if1 .taken)
+    (λ c. search needs)
+    (λ c. search needs)
+    (λ c. search needs)
+    (λ c. search needs)
+    (λ c. let a = c .before .before .before .before .before .args in (left-none width most (a .block .now) (sym (c .before .is-block .ensures) ∙ c .if1 .left) (heldIn width most (a .block .now)) refl (a .items .now) (a .who) (viewAct (a .act)), λ n. refl)))

@@ -1,0 +1,24 @@
+use Prim.Native.Nat.{_+_, _*_}
+use Rattle.words.specs.Edition.{width}
+use Rattle.block.proofs.Words.{queue-is}
+use borrow.Author.Needs.{needs}
+use Rattle.block.proofs.layout.queue_at.Statement.{statement}
+use Rattle.block.proofs.layout.queue_at.Tie as tie
+
+pub queue-at-spec : {M : Type 1} → statement M
+queue-at-spec =
+    tie.close
+    (tie.spec
+    (λ c. search needs)
+    (λ c. search needs)
+    (λ c. search needs)
+    (λ c. search needs)
+    (λ c κs. search needs)
+    (λ c. search needs)
+    (λ c. search needs)
+    (λ c. search needs)
+    (λ c κs. search needs)
+    (λ c. search needs)
+    (λ c. search needs)
+    (λ c. search needs)
+    (λ c. λ k. let a = c .before .before .before .before .before .before .args in queue-is width (a .block .now) (196 + 3 * a .i) k (c .before .before .before .unpack .ensures) (c .before .unpack2 .ensures)))

@@ -1,0 +1,12 @@
+use Rattle.block.specs.Cell.{endingOf}
+use borrow.Author.Tests.{eq-eqb, ne-eqb}
+use Rattle.block.proofs.read.ending_of.Statement.{statement}
+use Rattle.block.proofs.read.ending_of.Tie as tie
+
+pub ending-of-spec : {M : Type 1} → statement M
+unfolding endingOf
+ending-of-spec = tie.close (tie.spec
+    (λ c. simp (eq-eqb _ _ (c .if1 .taken)))
+    (λ c. simp (ne-eqb _ _ (c .before .before .if1 .left), eq-eqb _ _ (c .if2 .taken)))
+    (λ c. simp (ne-eqb _ _ (c .before .before .before .before .if1 .left), ne-eqb _ _ (c .before .before .if2 .left), eq-eqb _ _ (c .if3 .taken)))
+    (λ c. simp (ne-eqb _ _ (c .before .before .before .before .if1 .left), ne-eqb _ _ (c .before .before .if2 .left), ne-eqb _ _ (c .if3 .left))))

@@ -1,0 +1,5 @@
+pub mod Cell
+pub mod Block
+pub mod Reply
+pub mod Survey
+pub mod Held

@@ -1,0 +1,27 @@
+// A machine in plain words: 64-bit numbers in one lent slice, as a host in another language holds it.
+pub mod write; // a place as numbers
+pub mod read; // numbers as a place
+pub mod layout; // where the words stand
+pub mod reply; // answers and effects as numbers
+pub mod entry; // begin, step and run alone where the words stand
+
+// What a call is about: its tag, and the rule, the source and the number (a token, or the rule's) that go with it.
+pub struct What {
+    pub tag: u64,
+    pub rule: u64,
+    pub source: u64,
+    pub number: u64,
+}
+
+// A place: its role (0 idle, 1 LIFO's, 2 FIFO's, 3 own, 4 booking, 5 moving, 6 closing), its row there, and what it remembers.
+pub struct Cell {
+    pub role: u64,
+    pub row: u64,
+    pub what: What,
+    pub packed: u64,
+    pub a: u32,
+    pub b: u32,
+    pub c: u32,
+    pub d: u32,
+    pub e: u32,
+}
