@@ -8,3 +8,5 @@ pub mod Seats
 pub mod Surveying
 pub mod PutBack
 pub mod Acting
+pub mod Storing
+pub mod Opens

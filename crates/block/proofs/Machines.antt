@@ -73,10 +73,10 @@ module _ {xs ys ws : List ℕ} {base n : ℕ} (f : Filed xs ys ws base n) where
     queues-kept apart = table-same (queueIn w most k xs) (queueIn w most k ys) 0 most (λ i a b. ap (queueFrom w k) (elsewhere (queueBase most i) 3 (apart i (omega arith))))
 
 -- two parties, two queues, a party and a queue stand apart
-seats-apart : (i j : ℕ) → (j ≡ i → ⊥) → (seatBase j + 11 ≤ seatBase i) ⊎ (seatBase i + 11 ≤ seatBase j)
+pub seats-apart : (i j : ℕ) → (j ≡ i → ⊥) → (seatBase j + 11 ≤ seatBase i) ⊎ (seatBase i + 11 ≤ seatBase j)
 seats-apart i j ne = ⊎-elim (λ h. inl (omega arith)) (λ h. inr (omega (arith, ne))) (less-or-not j i)
 
-queues-apart : (most i j : ℕ) → (j ≡ i → ⊥) → (queueBase most j + 3 ≤ queueBase most i) ⊎ (queueBase most i + 3 ≤ queueBase most j)
+pub queues-apart : (most i j : ℕ) → (j ≡ i → ⊥) → (queueBase most j + 3 ≤ queueBase most i) ⊎ (queueBase most i + 3 ≤ queueBase most j)
 queues-apart most i j ne = ⊎-elim (λ h. inl (omega arith)) (λ h. inr (omega (arith, ne))) (less-or-not j i)
 
 module _ (w most : ℕ) (xs : List ℕ) where

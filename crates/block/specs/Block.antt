@@ -4,7 +4,7 @@ use Prim.Native.Nat.{ℕ, zero, suc, _+_, _*_}
 use mathlib.Core.Bool.{Bool}
 use mathlib.Core.List.{List, [], _∷_}
 use lib.Dec.{ltb, leb, eqb}
-use lib.ListN.{length, getD}
+use lib.ListN.{length, getD, replicate}
 use Rattle.words.specs.Word.{pick, packed, high, low}
 use Rattle.tables.specs.Rule.{Kind, lifo, fifo}
 use Rattle.tables.specs.Machine as M
@@ -74,6 +74,18 @@ table f i (suc n) = f i ∷ table f (suc i) n
 
 abbrev pub kindOf : ℕ → Kind
 kindOf n = pick (eqb n 0) lifo fifo
+
+abbrev pub kindNumber : Kind → ℕ
+kindNumber lifo = 0
+kindNumber fifo = 1
+
+-- no answer yet: as many zeros as a reply has words
+abbrev pub noReply : List ℕ
+noReply = replicate replySize 0
+
+-- the first twenty words of a block that was just opened
+abbrev pub headWords : Kind → (parties : ℕ) → List ℕ
+headWords k n = seal ∷ kindNumber k ∷ n ∷ noReply
 
 unfoldable pub isBlock : (most : ℕ) → List ℕ → Bool
 isBlock most xs =

@@ -3,3 +3,4 @@ pub mod Block
 pub mod Reply
 pub mod Survey
 pub mod Held
+pub mod Opening

@@ -10,6 +10,9 @@ use machine::Effects;
 use machine::Machine;
 use queue::Answer;
 
+pub mod numbers; // calls and marks by number
+pub mod export; // what a host in another language links
+
 // What an act leaves beside the machine.
 pub struct Reply {
     pub answer: Answer,
