@@ -5,6 +5,7 @@
 //!     generate lone SEED COUNT [FIRST]       every call run alone, none refused
 //!     generate systematic SWITCHES [EVERY]   all interleavings of two calls
 //!     generate bench                         document 01's runs and named cases
+//!     generate even SEED LINES KIND PARTIES  one long interleaved schedule, bare
 //!
 //! The schedule with number i of a seed is the same for every count. To know
 //! which calls are under way and what they want, a script carries the plain
@@ -28,6 +29,7 @@ mod script;
 #[path = "generate/systematic.rs"]
 mod systematic;
 
+use machine::Kind;
 use random::Random;
 use std::io::{self, Write};
 
@@ -59,8 +61,16 @@ fn generate() -> io::Result<()> {
             systematic::write_all(&mut out, switches as u32, every.unwrap_or(1).max(1))?
         }
         ("bench", _, _) => bench::write_all(&mut out)?,
+        ("even", Some(seed), Some(lines)) => {
+            let kind = if arguments.get(3).map_or(false, |word| word == "fifo") { Kind::Fifo } else { Kind::Lifo };
+            let parties = number(4).unwrap_or(4).clamp(1, machine::PARTIES);
+            out.write_all(&random::even_schedule(&mut Random::of(seed, 0), kind, parties, lines))?
+        }
         _ => {
-            eprintln!("usage: generate random|damaged|lone SEED COUNT [FIRST] | systematic SWITCHES [EVERY] | bench");
+            eprintln!(
+                "usage: generate random|damaged|lone SEED COUNT [FIRST] | systematic SWITCHES [EVERY] | bench \
+                 | even SEED LINES KIND PARTIES"
+            );
             std::process::exit(2);
         }
     }

@@ -91,6 +91,18 @@ pub fn long_schedule(random: &mut Random, lines: u64) -> Vec<u8> {
     maker.script.text
 }
 
+/// A long one to measure speed by: all parties interleaved, the queues alike,
+/// no line meant to be refused.
+pub fn even_schedule(random: &mut Random, kind: Kind, parties: u64, lines: u64) -> Vec<u8> {
+    let taste = Taste { style: Style::Even, weak: 10, wrong: 0, focus: 40, lines };
+    let queues: Vec<(u64, u32)> = (0..parties).map(|_| (64, 0)).collect();
+    let mut maker = Maker { random, script: Script::open(kind, &queues), taste, party: 0, token: 0 };
+    for _ in 0..lines {
+        maker.line();
+    }
+    maker.script.text
+}
+
 /// Whole calls only, none refused and none weak: what the queues can also run
 /// without turns.
 pub fn lone_schedule(random: &mut Random) -> Vec<u8> {
