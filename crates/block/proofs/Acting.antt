@@ -33,10 +33,10 @@ use Rattle.block.proofs.Tables.{table-length, entry}
 -- ---- what a refusal leaves
 
 module _ (w most : ℕ) (m : M.Machine) (xs : List ℕ) (who : ℕ) where
-  pub refused-items : (act : Act) → (acted w most m xs who act .refusal ≡ 0 → ⊥) → acted w most m xs who act .items ≡ xs
-  refused-items (Ac.begins c) n = begin-unchanged w most m who c xs n .items
-  refused-items (Ac.steps k) n = step-unchanged w most m who k xs n .items
-  refused-items (Ac.alones b) n = alone-unchanged w most who m xs b n .items
+  pub refused-same : (act : Act) → (acted w most m xs who act .refusal ≡ 0 → ⊥) → (acted w most m xs who act .machine ≡ m) × (acted w most m xs who act .items ≡ xs)
+  refused-same (Ac.begins c) n = let u = begin-unchanged w most m who c xs n in (u .machine, u .items)
+  refused-same (Ac.steps k) n = let u = step-unchanged w most m who k xs n in (u .machine, u .items)
+  refused-same (Ac.alones b) n = let u = alone-unchanged w most who m xs b n in (u .machine, u .items)
 
   -- a record that fails its test is refused with 1
   pub unsound : (act : Act) → sound w most m (length xs) ≡ false → acted w most m xs who act .refusal ≡ 1
@@ -57,7 +57,7 @@ module _ (w most : ℕ) (h : Held) (xs : List ℕ) (who : ℕ) (act : Act) (a : 
 
   pub left-refused : (a .refusal ≡ 0 → ⊥) → _≡_ {A = Left} (record { held = h; items = a .items; refusal = a .refusal }) (left w most h xs who act)
   left-refused n =
-      let same : a .items ≡ xs = ap (λ (x : Acted). x .items) e ∙ refused-items w most (h .machine) xs who act (λ z. n (ap (λ (x : Acted). x .refusal) e ∙ z)) in
+      let same : a .items ≡ xs = ap (λ (x : Acted). x .items) e ∙ refused-same w most (h .machine) xs who act (λ z. n (ap (λ (x : Acted). x .refusal) e ∙ z)) .1 in
       ap (λ (l : List ℕ). record { held = h; items = l; refusal = a .refusal }) same ∙ sym (pick-no (eqb (a .refusal) 0) _ _ (ne-eqb (a .refusal) 0 n)) ∙ left-is
 
 -- words that are no block: refusal 1
@@ -72,7 +72,7 @@ module _ (w most : ℕ) (xs : List ℕ) (no : isBlock most xs ≡ false) where
       let a : Acted = acted w most (h .machine) items who act in
       let one : a .refusal ≡ 1 = unsound w most (h .machine) items who act (subst (λ (m : M.Machine). sound w most m (length items) ≡ false) (sym e) (none-sound (length items))) in
       let n : a .refusal ≡ 0 → ⊥ = λ z. omega (arith, one, z) in
-      (λ i. record { held = h; items = sym (refused-items w most (h .machine) items who act n) i; refusal = sym one i }) ∙ left-refused w most h items who act a refl n
+      (λ i. record { held = h; items = sym (refused-same w most (h .machine) items who act n .1) i; refusal = sym one i }) ∙ left-refused w most h items who act a refl n
 
 -- ---- a block
 
