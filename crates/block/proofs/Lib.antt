@@ -10,3 +10,4 @@ pub mod PutBack
 pub mod Acting
 pub mod Storing
 pub mod Opens
+pub mod Looks

@@ -4,3 +4,4 @@ pub mod Reply
 pub mod Survey
 pub mod Held
 pub mod Opening
+pub mod Look

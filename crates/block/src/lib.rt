@@ -6,6 +6,7 @@ pub mod reply; // answers and effects as numbers
 pub mod entry; // begin, step and run alone where the words stand
 pub mod store; // a whole machine written
 pub mod open; // a fresh machine
+pub mod look; // what a host reads off
 
 // What a call is about: its tag, and the rule, the source and the number (a token, or the rule's) that go with it.
 pub struct What {

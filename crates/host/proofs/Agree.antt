@@ -50,12 +50,12 @@ module _ (w most : ℕ) (h : Held) (xs : List ℕ) (who : ℕ) (act : Act) where
   pub agree : {r : Reply} {m : Machine} {ys : List ℕ} {l : Left} → replied r m ys ≡ a → l ≡ left w most h xs who act → Agreed h r m ys l
   agree {r} {m} {ys} {l} thin fast =
       let both : (by (eqb (a .refusal) 0) .refusal ≡ a .refusal) × (by (eqb (a .refusal) 0) .items ≡ a .items) × (by (eqb (a .refusal) 0) .held .machine ≡ a .machine)
-          = same (eqb (a .refusal) 0) refl in
+      = same (eqb (a .refusal) 0) refl in
       let to : l ≡ by (eqb (a .refusal) 0) = fast ∙ left-is in
       record {
         refusal = ap (λ (x : Left). x .refusal) to ∙ both .0 ∙ sym (ap (λ (x : Acted). x .refusal) thin);
         items = ap (λ (x : Left). x .items) to ∙ both .1 ∙ sym (ap (λ (x : Acted). x .items) thin);
         machine = ap (λ (x : Left). x .held .machine) to ∙ both .2 ∙ sym (ap (λ (x : Acted). x .machine) thin);
         reply = ap (λ (x : Left). x .held .reply) to ∙ reply-is (eqb (a .refusal) 0)
-        ∙ sym (ap (λ (x : Acted). pick (eqb (x .refusal) 0) (replyWords (x .answer) (x .effects) (x .steps)) (h .reply)) thin);
+            ∙ sym (ap (λ (x : Acted). pick (eqb (x .refusal) 0) (replyWords (x .answer) (x .effects) (x .steps)) (h .reply)) thin);
       }

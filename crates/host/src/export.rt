@@ -1,10 +1,14 @@
 // What a host in C or Rust links: numbers, slices, and the machine as a block of words that the host owns. docs/HOST.md has the table.
 ghost use mathlib.Core.Path.{_≡_};
+ghost use mathlib.Core.List.{List};
+ghost use Prim.Native.Nat.{ℕ};
+ghost use lib.ListN.{length, getD};
 ghost use Rattle.words.specs.Edition.{width};
 ghost use Rattle.machine.specs.Act as Ac;
 ghost use Rattle.machine.specs.View.{most};
 ghost use Rattle.block.specs.Block as B;
 ghost use Rattle.block.specs.Held as Hd;
+ghost use Rattle.block.specs.Look as L;
 ghost use Rattle.block.specs.Opening as O;
 ghost use Rattle.host.specs.Numbers as N;
 use super::numbers;
@@ -91,4 +95,44 @@ pub extern "C" fn ragnulois_run_alone(
     ensures { λ r. ⌜ ((r ≡ 0 → ⊥) → now (block .exit) ≡ now (block .entry)) ⌝ }
 {
     block::entry::act(block, items, party, Act::Alone(budget))
+}
+
+// The machine's parties; 0 where the words are no block.
+#[no_mangle]
+pub extern "C" fn ragnulois_parties(block: &[u64]) -> u64
+    ensures { λ r. ⌜ r ≡ B.machineOf width most (now (block .entry)) .parties ⌝ }
+{
+    block::look::parties(block)
+}
+
+// A word of a queue: 0 capacity, 1 count (LIFO's push count, FIFO's tail), 2 the packed heads, 3 the completed head; else 0.
+#[no_mangle]
+pub extern "C" fn ragnulois_word(block: &[u64], queue: u64, which: u64) -> u64
+    ensures { λ r. ⌜ r ≡ L.wordIn width most (now (block .entry)) queue which ⌝ }
+{
+    block::look::word(block, queue, which)
+}
+
+// Word 0 to 16 of the last answer; else 0.
+#[no_mangle]
+pub extern "C" fn ragnulois_reply(block: &[u64], which: u64) -> u64
+    ensures { λ r. ⌜ r ≡ L.replyIn most (now (block .entry)) which ⌝ }
+{
+    block::look::reply(block, which)
+}
+
+// How many tokens rest in a queue.
+#[no_mangle]
+pub extern "C" fn ragnulois_resting(block: &[u64], queue: u64) -> u64
+    ensures { λ r. ⌜ ((xs : List ℕ) → r ≡ length (L.restIn width most (now (block .entry)) xs queue)) ⌝ }
+{
+    block::look::resting(block, queue)
+}
+
+// The i-th of them, head first; 0 where there is none.
+#[no_mangle]
+pub extern "C" fn ragnulois_token(block: &[u64], items: &[u64], queue: u64, i: u64) -> u64
+    ensures { λ r. ⌜ r ≡ getD (L.restIn width most (now (block .entry)) (now (items .entry)) queue) i 0 ⌝ }
+{
+    block::look::token(block, items, queue, i)
 }

@@ -9,3 +9,4 @@ pub mod Held
 pub mod Applied
 pub mod Opens
 pub mod One
+pub mod Rests

@@ -5,6 +5,8 @@ use mathlib.Core.List.{List, [], _∷_, map}
 use Rattle.tables.specs.Rule as R
 use Rattle.tables.specs.Effect as E
 use Rattle.tables.specs.Machine as M
+use Rattle.tables.specs.Machine.{stretch}
+use Rattle.tables.specs.Lists.{tokens}
 use Rattle.tables.specs.Step as St
 use Rattle.queue.specs.View as Q
 use Rattle.machine.specs.Desk as D
@@ -24,6 +26,7 @@ use Rattle.machine.specs.declared.Reached.{Reached}
 use Rattle.machine.specs.declared.Did.{Did}
 use Rattle.machine.specs.declared.Ran.{Ran}
 use Rattle.machine.specs.declared.Turned.{Turned}
+use Rattle.machine.specs.declared.rest.Shelf.{Shelf}
 
 -- the party limit
 abbrev pub most : ℕ
@@ -116,3 +119,7 @@ viewTurned k x xs = record {
 
 abbrev pub viewSurvey : Survey → D.Survey
 viewSurvey x = record { sound = x .sound; total = x .total; own = x .own; source = x .source }
+
+-- what rests on a shelf
+abbrev pub shelfTokens : Shelf → (items : List ℕ) → List ℕ
+shelfTokens s xs = tokens (s .capacity) (stretch (s .base) (s .capacity) xs) (s .head) (s .count)

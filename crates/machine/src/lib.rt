@@ -24,6 +24,7 @@ pub mod deeds; // what a step has done, and the few effects of a run alone
 pub mod turn; // one party with its own queue and its source's
 pub mod test; // the record test
 pub mod open; // a fresh machine
+pub mod rest; // what rests in a queue
 
 pub const MOST: usize = 16;
 

@@ -4,4 +4,3 @@ pub mod Parts
 pub mod Writing
 pub mod Sessions
 pub mod Openings
-pub mod Rests

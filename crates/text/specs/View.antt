@@ -9,8 +9,6 @@ use lib.Dec.{eqb, ltb}
 use Rattle.words.specs.Word.{pick}
 use Rattle.tables.specs.Rule as R
 use Rattle.tables.specs.Call as C
-use Rattle.tables.specs.Machine.{stretch}
-use Rattle.tables.specs.Lists.{tokens}
 use Rattle.queue.specs.View as Q
 use Rattle.text.specs.Ascii.{same}
 use Rattle.text.specs.Line as L
@@ -24,7 +22,6 @@ use Rattle.text.specs.declared.session.Session.{Session}
 use Rattle.text.specs.declared.Line.{Line}
 use Rattle.text.specs.declared.Line.the-variants as Line·v
 use Rattle.text.specs.declared.write.Numbers.{Numbers}
-use Rattle.text.specs.declared.rest.Shelf.{Shelf}
 use Rattle.text.specs.declared.read.Num.{Num}
 use Rattle.text.specs.declared.read.Field.{Field}
 use Rattle.text.specs.declared.read.Ruled.{Ruled}
@@ -114,7 +111,3 @@ viewSession s = record {
 
 abbrev pub stateOf : Session → Machine → List ℕ → N.State
 stateOf s m xs = record { session = viewSession s; machine = M.viewMachine m; items = xs }
-
--- what rests on a shelf
-abbrev pub shelfTokens : Shelf → (items : List ℕ) → List ℕ
-shelfTokens s xs = tokens (s .capacity) (stretch (s .base) (s .capacity) xs) (s .head) (s .count)

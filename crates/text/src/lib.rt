@@ -6,7 +6,6 @@ use queue::Mark;
 pub mod read; // a line, from its bytes
 pub mod write; // what is printed, as bytes
 pub mod session; // a run, line by line
-pub mod rest; // what rests at the end
 
 pub enum Line {
     Machine(Kind, u64),

@@ -1,6 +1,6 @@
 use borrow.Author.Needs.{needs}
-use Rattle.text.proofs.rest.tail_of.Statement.{statement}
-use Rattle.text.proofs.rest.tail_of.Tie as tie
+use Rattle.machine.proofs.rest.tail_of.Statement.{statement}
+use Rattle.machine.proofs.rest.tail_of.Tie as tie
 
 pub tail-of-spec : {M : Type 1} → statement M
 tail-of-spec =

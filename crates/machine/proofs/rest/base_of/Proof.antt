@@ -6,9 +6,9 @@ use borrow.Author.Needs.{needs}
 use Rattle.tables.specs.Rule as R
 use Rattle.tables.specs.Machine.{baseOf}
 use Rattle.queue.specs.View as Q
-use Rattle.text.proofs.Rests.{bases}
-use Rattle.text.proofs.rest.base_of.Statement.{statement}
-use Rattle.text.proofs.rest.base_of.Tie as tie
+use Rattle.machine.proofs.Rests.{bases}
+use Rattle.machine.proofs.rest.base_of.Statement.{statement}
+use Rattle.machine.proofs.rest.base_of.Tie as tie
 
 abbrev Inv-loop : tie.InvT-loop
 Inv-loop n queue base₀ i₀ base i =

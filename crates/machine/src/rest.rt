@@ -1,4 +1,4 @@
-// What rests in a queue when the input ends, token by token.
+// What rests in a queue, token by token.
 ghost use mathlib.Core.Path.{_≡_};
 ghost use mathlib.Core.List.{List, map};
 ghost use Prim.Native.Nat.{ℕ, _*_, _^_, _<_, _≤_};
@@ -8,10 +8,9 @@ ghost use Rattle.tables.specs.Rule as R;
 ghost use Rattle.tables.specs.Machine.{baseOf};
 ghost use Rattle.tables.specs.Lists.{headOf, tailOf, restingAt};
 ghost use Rattle.queue.specs.View as Q;
-ghost use Rattle.machine.specs.View as M;
-ghost use Rattle.text.specs.View as Vw;
-use machine::MOST;
-use machine::Machine;
+ghost use Rattle.machine.specs.View as Vw;
+use super::MOST;
+use super::Machine;
 use queue::Kind;
 use queue::Queue;
 
@@ -37,7 +36,7 @@ fn base_of(queue: [Queue; MOST], n: usize) -> usize
     base
 }
 
-fn head_of(kind: Kind, queue: Queue) -> u32
+pub fn head_of(kind: Kind, queue: Queue) -> u32
     ensures { λ r. ⌜ r ≡ headOf width (Q.viewKind kind) (Q.viewQueue (Q.viewKind kind) queue) ⌝ }
 {
     let heads = words::unpack(queue.packed);
@@ -47,7 +46,7 @@ fn head_of(kind: Kind, queue: Queue) -> u32
     }
 }
 
-fn tail_of(kind: Kind, queue: Queue) -> u32
+pub fn tail_of(kind: Kind, queue: Queue) -> u32
     ensures { λ r. ⌜ r ≡ tailOf width (Q.viewKind kind) (Q.viewQueue (Q.viewKind kind) queue) ⌝ }
 {
     let counts = words::unpack(queue.packed);
@@ -59,7 +58,7 @@ fn tail_of(kind: Kind, queue: Queue) -> u32
 
 pub fn shelf_of(m: Machine, q: usize) -> Shelf
     requires { ⌜ q < 16 ⌝ }
-    ensures { λ r. ⌜ ((xs : List ℕ) → Vw.shelfTokens r xs ≡ restingAt width (M.viewMachine m) xs q) ⌝ }
+    ensures { λ r. ⌜ ((xs : List ℕ) → Vw.shelfTokens r xs ≡ restingAt width (Vw.viewMachine m) xs q) ⌝ }
 {
     let kind = m.kind;
     let queues = m.queue;

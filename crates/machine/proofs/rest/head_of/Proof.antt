@@ -1,6 +1,6 @@
 use borrow.Author.Needs.{needs}
-use Rattle.text.proofs.rest.head_of.Statement.{statement}
-use Rattle.text.proofs.rest.head_of.Tie as tie
+use Rattle.machine.proofs.rest.head_of.Statement.{statement}
+use Rattle.machine.proofs.rest.head_of.Tie as tie
 
 pub head-of-spec : {M : Type 1} → statement M
 head-of-spec = tie.close (tie.spec

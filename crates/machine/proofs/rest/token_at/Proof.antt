@@ -1,8 +1,8 @@
-use Rattle.text.proofs.Rests.{token-none, token-past, token-is}
+use Rattle.machine.proofs.Rests.{token-none, token-past, token-is}
 use native.Mathlib.Omega.{arith}
 use borrow.Author.Needs.{needs}
-use Rattle.text.proofs.rest.token_at.Statement.{statement}
-use Rattle.text.proofs.rest.token_at.Tie as tie
+use Rattle.machine.proofs.rest.token_at.Statement.{statement}
+use Rattle.machine.proofs.rest.token_at.Tie as tie
 
 pub token-at-spec : {M : Type 1} → statement M
 token-at-spec =
