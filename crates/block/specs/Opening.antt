@@ -1,8 +1,8 @@
 -- Opening in a block: the machine that document 01's opening gives, whether refused or not, is what the block then holds.
-use Prim.Native.Nat.{ℕ}
-use mathlib.Core.Bool.{Bool}
+use Prim.Native.Nat.{ℕ, _<_}
 use mathlib.Core.List.{List}
-use lib.Dec.{ltb, leb}
+use mathlib.Core.Logic.{_⊎_}
+use lib.Dec.{ltb}
 use lib.ListN.{length, getD}
 use Rattle.words.specs.Word.{pick}
 use Rattle.tables.specs.Step as St
@@ -29,6 +29,9 @@ abbrev pub openedAs : St.Opened → LeftAt
 openedAs o = leftAt (o .refusal) (record { machine = o .machine; reply = noReply })
 
 -- Words too few for a block, and a kind that is none, are refused with 1 and left as they came.
+abbrev pub untouched : (most : ℕ) → List ℕ → (kind : ℕ) → Type 0
+untouched most xs k = (length xs < size most) ⊎ (1 < k)
+
 unfoldable pub opened : (w most : ℕ) → List ℕ → (kind parties : ℕ) → (requests positions : List ℕ) → (lent : ℕ) → LeftAt
 opened w most xs k n rs ps lent =
     pick (ltb (length xs) (size most)) (leftAt 1 (heldIn w most xs))

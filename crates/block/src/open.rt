@@ -72,6 +72,7 @@ pub fn open(
 ) -> u8
     ensures { λ r. ⌜ O.leftAt r (Hd.heldIn width most (now (block .exit)))
         ≡ O.opened width most (now (block .entry)) kind parties (now (requests .entry)) (now (positions .entry)) lent ⌝ }
+    ensures { λ _. ⌜ (O.untouched most (now (block .entry)) kind → now (block .exit) ≡ now (block .entry)) ⌝ }
 {
     if block.len() < 244 {
         return 1;

@@ -34,6 +34,7 @@ pub extern "C" fn ragnulois_open(
 ) -> u8
     ensures { λ r. ⌜ O.leftAt r (Hd.heldIn width most (now (block .exit)))
         ≡ O.opened width most (now (block .entry)) kind parties (now (requests .entry)) (now (positions .entry)) lent ⌝ }
+    ensures { λ _. ⌜ (O.untouched most (now (block .entry)) kind → now (block .exit) ≡ now (block .entry)) ⌝ }
 {
     block::open::open(block, kind, parties, requests, positions, lent)
 }
