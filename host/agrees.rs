@@ -14,7 +14,7 @@ enum Line {
     Queue(u64, u32),
     Begin(u64, Call),
     Step(u64, Mark),
-    /// Refused with 9, here and not by the library.
+    /// Refused here and not by the library.
     Malformed,
 }
 
@@ -180,8 +180,16 @@ fn played(machine: &mut Machine, line: Line) -> Result<Option<String>, Refusal> 
     }
 }
 
+/// The text has 9 for a line that is malformed or misplaced.
+fn code(refusal: Refusal) -> u8 {
+    match refusal {
+        Refusal::Malformed => 9,
+        other => other.number(),
+    }
+}
+
 fn print_refused(out: &mut impl Write, Refused(line, refusal): Refused) -> io::Result<()> {
-    writeln!(out, "refused\t{line}\t{}", refusal.number())
+    writeln!(out, "refused\t{line}\t{}", code(refusal))
 }
 
 /// Each queue's words, then its stretch of the items.

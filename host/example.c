@@ -56,7 +56,7 @@ static void print_rest(void) {
 static void one_run(void) {
     const uint64_t requests[] = {0};
     const uint32_t positions[] = {0};
-    must(ragnulois_open(block, WORDS, RAGNULOIS_LIFO, 1, requests, 1, positions, 1, LENT));
+    must(ragnulois_open(block, WORDS, RAGNULOIS_LIFO, 1, requests, 1, positions, 1, items, LENT));
     begin(RAGNULOIS_PUSH, 7);
     step(5);
     begin(RAGNULOIS_PUSH, 8);

@@ -10,7 +10,7 @@
  * Lengths count elements, not bytes. All else is tested: any words, items and numbers get a result or a refusal. That the items
  * are those that the block was run with is the caller's too: others are taken for the slots as they stand.
  *
- * Acts return 0 or the refusal's number. A refused act changes no word and no item.
+ * Acts return 0, the refusal's number, or RAGNULOIS_MALFORMED. Where it is not 0, an act has changed no word and no item.
  */
 #ifndef RAGNULOIS_H
 #define RAGNULOIS_H
@@ -100,9 +100,11 @@ enum ragnulois_refusal {
     RAGNULOIS_REFUSED_SOURCE = 5,    /* no such source */
     RAGNULOIS_REFUSED_MARK = 6,      /* a mark that the step does not want, or none where it wants one */
     RAGNULOIS_REFUSED_REQUEST = 7,   /* opening with a request above 2^31 */
-    RAGNULOIS_REFUSED_LENT = 8,      /* opening with capacities that sum past the lent items */
-    RAGNULOIS_REFUSED_MALFORMED = 9  /* a call, rule or mark that is none */
+    RAGNULOIS_REFUSED_LENT = 8       /* opening with capacities that sum past the lent items */
 };
+
+/* What begin and step return for a number that is no call, rule or mark, before they look for a refusal. */
+#define RAGNULOIS_MALFORMED 100
 
 /* Where the words of a reply stand; from RAGNULOIS_REPLY_EFFECT on, four words for each of up to three effects. */
 enum ragnulois_in_reply {
@@ -127,17 +129,20 @@ enum ragnulois_in_queue {
 /* How many words a block has. */
 uint64_t ragnulois_words(void);
 
-/* A fresh machine in any words, whatever they were: one request and one position for each party, and `lent` items to come.
- * Refusal 1, 7 or 8; but where the words are too few or the kind is none, nothing is changed, and else a machine with no
- * party is left, which every act refuses with 1. */
+/* A fresh machine in any words, whatever they were: one request and one position for each party, and the items that it will
+ * run with, which opening does not write. Refusal 1, 7 or 8; but where the words are too few or the kind is none, nothing is
+ * changed, and else a machine with no party is left, which every act refuses with 1. */
 uint8_t ragnulois_open(uint64_t *block, size_t words, uint64_t kind, uint64_t parties, const uint64_t *requests,
-                       size_t request_count, const uint32_t *positions, size_t position_count, uint64_t lent);
+                       size_t request_count, const uint32_t *positions, size_t position_count, const uint64_t *items,
+                       size_t lent);
 
-/* Begins a call of a party; it makes no access yet. What the call does not use is not looked at. Refusal 9, 1, 2, 3 or 5. */
+/* Begins a call of a party; it makes no access yet. What the call does not use is not looked at. Malformed, or refusal 1, 2, 3
+ * or 5. */
 uint8_t ragnulois_begin(uint64_t *block, size_t words, uint64_t *items, size_t lent, uint64_t party, uint64_t call,
                         uint64_t source, uint64_t rule, uint64_t number);
 
-/* One step of the call that the party has under way; the reply says whether it came to an answer. Refusal 9, 1, 2, 4 or 6. */
+/* One step of the call that the party has under way; the reply says whether it came to an answer. Malformed, or refusal 1, 2,
+ * 4 or 6. */
 uint8_t ragnulois_step(uint64_t *block, size_t words, uint64_t *items, size_t lent, uint64_t party, uint64_t mark,
                        uint64_t number);
 

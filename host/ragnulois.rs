@@ -17,7 +17,8 @@ mod library {
             request_count: usize,
             positions: *const u32,
             position_count: usize,
-            lent: u64,
+            items: *const u64,
+            lent: usize,
         ) -> u8;
         pub fn ragnulois_begin(
             block: *mut u64,
@@ -179,7 +180,8 @@ pub enum Refusal {
     Mark = 6,
     Request = 7,
     Lent = 8,
-    Malformed = 9,
+    /// A number that is no call, rule or mark: none of document 01's refusals.
+    Malformed = 100,
 }
 
 impl Refusal {
@@ -196,7 +198,7 @@ impl std::fmt::Display for Refusal {
 
 impl std::error::Error for Refusal {}
 
-/// The library returns 0 to 9.
+/// The library returns 0 to 8, or 100.
 fn refused(number: u8) -> Result<(), Refusal> {
     Err(match number {
         0 => return Ok(()),
@@ -313,7 +315,8 @@ impl Machine {
                 requests.len(),
                 positions.as_ptr(),
                 positions.len(),
-                items.len() as u64,
+                items.as_ptr(),
+                items.len(),
             )
         };
         refused(number).map(|()| Machine { block, items })
@@ -335,7 +338,7 @@ impl Machine {
         self.begin_numbered(party, call, source, rule, number)
     }
 
-    /// Begins a call by the numbers of ragnulois.h; those that name nothing are refused with 9.
+    /// Begins a call by the numbers of ragnulois.h; those that name nothing are malformed.
     pub fn begin_numbered(
         &mut self,
         party: u64,

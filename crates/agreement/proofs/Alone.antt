@@ -1,14 +1,16 @@
 -- Claim 5, but for the lists: running alone is that many single steps: machine, items, answer, effects with dropped ones in a row as one.
+-- Each of its turns is a plain step that nothing refuses (tables/proofs/Alone), and what it gathers is gathered step by step.
 use Prim.Native.Nat.{ℕ, zero, suc, _+_}
 use mathlib.Core.Path.{_≡_, refl, ap, subst, _∙_}
 use mathlib.Core.List.{List, [], _∷_}
 use native.Mathlib.Omega.{arith}
 use lib.ListN.{length}
-use Rattle.tables.specs.Rule.{plain}
-use Rattle.tables.specs.Answer as A
-use Rattle.tables.specs.Answer.{Answer, isPending}
-use Rattle.tables.specs.Effect.{Effect}
-use Rattle.tables.specs.Step.{Outcome, taken, step, Alone, noted, stops, onward, runs, still, alone}
+use Rattle.tables.specs.declared.answer.Answer.{Answer}
+use Rattle.tables.specs.declared.answer.Answer.the-variants as Answer
+use Rattle.tables.specs.declared.answer.Effect.{Effect}
+use Rattle.tables.specs.declared.call.Mark.the-variants as Mark
+use Rattle.tables.specs.Answer.{isPending}
+use Rattle.tables.specs.Step.{Outcome, taken, step, Alone, noted, stops, onward, runs, until, still, alone}
 use Rattle.tables.specs.Lists.{Entry, said}
 use Rattle.tables.proofs.Bools.{pick-if, pick-yes}
 use Rattle.tables.proofs.Refused.{step-refusal, alone-needs, alone-if}
@@ -43,9 +45,9 @@ module _ (w most p : ℕ) where
       record { turns = 0; steps = omega arith; machine = refl; items = refl; answer = refl; effects = refl; taken = tt; record-is = e }
 
   one-more : (r : Run) (l : List Entry) (a : Answer) (es : List Effect) (n : ℕ) (b : Alone)
-      → step w most (r .machine) (r .items) p plain .refusal ≡ 0
-      → Follows w most (stepped w most r p plain) p (didEntry (step w most (r .machine) (r .items) p plain .effect) l)
-      (step w most (r .machine) (r .items) p plain .answer) (noted es (step w most (r .machine) (r .items) p plain .effect)) (n + 1) b
+      → step w most (r .machine) (r .items) p Mark.Plain .refusal ≡ 0
+      → Follows w most (stepped w most r p Mark.Plain) p (didEntry (step w most (r .machine) (r .items) p Mark.Plain .effect) l)
+      (step w most (r .machine) (r .items) p Mark.Plain .answer) (noted es (step w most (r .machine) (r .items) p Mark.Plain .effect)) (n + 1) b
       → Follows w most r p l a es n b
   unfolding repeated singles lastAnswer gathered singlesOn NoneRefused
   one-more r l a es n b z f = record {
@@ -62,32 +64,32 @@ module _ (w most p : ℕ) where
   follows : (k : ℕ) (r : Run) (l : List Entry) (a : Answer) (es : List Effect) (n : ℕ) → Going w most p (alongside r a es n)
       → r .record′ ≡ saidEntry p a l
       → Follows w most r p l a es n (runs w p k (alongside r a es n))
-  unfolding runs
+  unfolding until
   follows zero r l a es n g e = none-yet r l a es n e
   follows (suc k) r l a es n g e =
       pick-if (Follows w most r p l a es n) (stops p (alongside r a es n)) (λ h. none-yet r l a es n e)
       (λ h.
-      let same : step w most (r .machine) (r .items) p plain ≡ taken w (r .machine) (r .items) p plain =
+      let same : step w most (r .machine) (r .items) p Mark.Plain ≡ taken w (r .machine) (r .items) p Mark.Plain =
       turn-is-step w most p (alongside r a es n) g h in
-      let go : Going w most p (onward (alongside r a es n) (step w most (r .machine) (r .items) p plain)) =
+      let go : Going w most p (onward (alongside r a es n) (step w most (r .machine) (r .items) p Mark.Plain)) =
       rw same (turn-going w most p (alongside r a es n) g h) in
       let bare : r .record′ ≡ l = e ∙ pick-yes (isPending a) l (said p a ∷ l) (turn-pending w most p (alongside r a es n) g h) in
       subst (λ (o : Outcome). Follows w most r p l a es n (runs w p k (onward (alongside r a es n) o))) same
-      (one-more r l a es n _ (step-refusal w most (r .machine) p plain (r .items) ∙ turn-can w most p (alongside r a es n) g h)
-      (follows k (stepped w most r p plain) _ _ _ (n + 1) go
-      (ap (λ (x : List Entry). recorded p (step w most (r .machine) (r .items) p plain) x) bare))))
+      (one-more r l a es n _ (step-refusal w most (r .machine) p Mark.Plain (r .items) ∙ turn-can w most p (alongside r a es n) g h)
+      (follows k (stepped w most r p Mark.Plain) _ _ _ (n + 1) go
+      (ap (λ (x : List Entry). recorded p (step w most (r .machine) (r .items) p Mark.Plain) x) bare))))
 
 -- ---- the claim
 
 pub record AsSingles (w most : ℕ) (r : Run) (p : ℕ) (b : Alone) : Type 0 where
   pub machine : repeated w most (b .steps) r p .machine ≡ b .machine
   pub items : repeated w most (b .steps) r p .items ≡ b .items
-  pub answer : b .answer ≡ lastAnswer A.pending (singles w most (b .steps) r p)
+  pub answer : b .answer ≡ lastAnswer Answer.Pending (singles w most (b .steps) r p)
   pub effects : b .effects ≡ gathered [] (singles w most (b .steps) r p)
   pub taken : NoneRefused (singles w most (b .steps) r p)
   pub record-is : repeated w most (b .steps) r p .record′ ≡ saidEntry p (b .answer) (singlesOn (r .record′) (singles w most (b .steps) r p))
 
-as-singles : (w most : ℕ) (r : Run) (p : ℕ) (b : Alone) → Follows w most r p (r .record′) A.pending [] 0 b → AsSingles w most r p b
+as-singles : (w most : ℕ) (r : Run) (p : ℕ) (b : Alone) → Follows w most r p (r .record′) Answer.Pending [] 0 b → AsSingles w most r p b
 as-singles w most r p b f =
     let e : f .turns ≡ b .steps = omega (arith, f .steps) in
     record {
@@ -107,6 +109,6 @@ pub alone-is-singles : (w most : ℕ) (r : Run) (p n : ℕ) → AsSingles w most
 alone-is-singles w most r p n =
     alone-if w most (r .machine) p (r .items) n (AsSingles w most r p)
     (λ e. as-singles w most r p _
-    (follows w most p n r (r .record′) A.pending [] 0
+    (follows w most p n r (r .record′) Answer.Pending [] 0
     (going-still w most p (r .machine) (r .items) n (alone-needs w most (r .machine) p (length (r .items)) e)) refl))
     (λ e. none-taken w most r p _)

@@ -1,27 +1,35 @@
--- Beginning a call changes the party's place alone.
+-- Beginning a call keeps what holds of a run: it changes the party's place alone, to one where nothing waits, is in hand, is held or
+-- remembered, and clears what was noted for the party.
 use mathlib.Core.Path.{_≡_, refl, sym, ap, subst, _∙_}
-use mathlib.Core.Bool.{true}
+use mathlib.Core.Bool.{true, false}
 use mathlib.Core.List.{List}
 use Prim.Native.Nat.{ℕ, _<_}
 use native.Mathlib.Omega.{arith}
 use lib.ListN.{length-set}
-use Rattle.tables.specs.Rule.{Kind, lifo, fifo, Rule}
-use Rattle.tables.specs.Errand as G
-use Rattle.tables.specs.LifoPlace.{LifoPlace}
-use Rattle.tables.specs.FifoPlace.{FifoPlace}
-use Rattle.tables.specs.Call as C
-use Rattle.tables.specs.Call.{Call}
-use Rattle.tables.specs.Place as P
-use Rattle.tables.specs.Place.{Place, OwnPlace}
-use Rattle.tables.specs.Machine.{Party, idleParty, partyAt}
-use Rattle.tables.specs.Tables.{isIdle, lifoSource, fifoSource, sourceOf, start, callSource}
+use Rattle.tables.specs.declared.call.Call.{Call}
+use Rattle.tables.specs.declared.call.Call.the-variants as Call
+use Rattle.tables.specs.declared.call.Rule.{Rule}
+use Rattle.tables.specs.declared.state.Kind.{Kind}
+use Rattle.tables.specs.declared.state.Kind.the-variants as Kind
+use Rattle.tables.specs.declared.state.Party.{Party}
+use Rattle.tables.specs.declared.place.BookingCall.the-variants as BookingCall
+use Rattle.tables.specs.declared.place.FifoPlace.{FifoPlace}
+use Rattle.tables.specs.declared.place.LifoPlace.{LifoPlace}
+use Rattle.tables.specs.declared.place.OwnPlace.{OwnPlace}
+use Rattle.tables.specs.declared.place.OwnPlace.the-variants as OwnPlace
+use Rattle.tables.specs.declared.place.Place.{Place}
+use Rattle.tables.specs.declared.place.Place.the-variants as Place
+use Rattle.tables.specs.Machine.{idleParty, partyAt}
+use Rattle.tables.specs.Tables.{lifoSource, fifoSource, sourceOf, start, callSource}
 use Rattle.tables.specs.Table.{booking, limitOf}
 use Rattle.tables.specs.Step.{withParty}
-use Rattle.tables.specs.Lists.{Lists, lists, tokens, update}
+use Rattle.tables.specs.Lists.{Lists, lists, update}
+use Rattle.tables.specs.Causes.{begunNotes}
 use Rattle.tables.proofs.Updates.{update-elim, update-same, update-other, list-update}
 use Rattle.agreement.specs.Statement.{Run}
+use Rattle.agreement.proofs.Ring.{tokens}
 use Rattle.agreement.proofs.Nums.{Nums, tail}
-use Rattle.agreement.proofs.Frame.{column-s}
+use Rattle.agreement.proofs.Frame.{column, column-s}
 use Rattle.agreement.proofs.Facts.{OwnL, OwnK, OwnO, OwnP, OwnF, BkB, BkF, held}
 use Rattle.agreement.proofs.Steps.{bookStill, Still}
 use Rattle.agreement.proofs.OwnFill.{Calm}
@@ -49,76 +57,67 @@ module _ (w p cap : ℕ) (s : List ℕ) where
       → Starts w p cap s pl source k
   on-own pl source k c e o f t = record { calm = c; source-is = e; own = o; bkr = λ fm items k₂ g l _. f fm items k₂ g l; still = t }
 
-  in-lifo : (x : LifoPlace) (source : ℕ) → lifoSource p x ≡ source → ((g : Nums) → OwnL w cap x lifo g)
-      → Starts w p cap s (P.lifo x) source lifo
-  in-lifo x source e o = on-own (P.lifo x) source lifo (calm-lifo p cap s x) e (λ f i g. o g) (λ f i k g l. tt) (λ g. tt)
+  in-lifo : (x : LifoPlace) (source : ℕ) → lifoSource p x ≡ source → ((g : Nums) → OwnL w cap x Kind.Lifo g)
+      → Starts w p cap s (Place.Lifo x) source Kind.Lifo
+  in-lifo x source e o = on-own (Place.Lifo x) source Kind.Lifo (calm-lifo p cap s x) e (λ f i g. o g) (λ f i k g l. tt) (λ g. tt)
 
-  in-fifo : (x : FifoPlace) (source : ℕ) → fifoSource p x ≡ source → ((fill : ℕ) (g : Nums) → OwnK w fill cap x fifo g)
-      → Starts w p cap s (P.fifo x) source fifo
-  in-fifo x source e o = on-own (P.fifo x) source fifo (calm-fifo p cap s x) e (λ f i g. o f g) (λ f i k g l. tt) (λ g. tt)
+  in-fifo : (x : FifoPlace) (source : ℕ) → fifoSource p x ≡ source → ((fill : ℕ) (g : Nums) → OwnK w fill cap x Kind.Fifo g)
+      → Starts w p cap s (Place.Fifo x) source Kind.Fifo
+  in-fifo x source e o = on-own (Place.Fifo x) source Kind.Fifo (calm-fifo p cap s x) e (λ f i g. o f g) (λ f i k g l. tt) (λ g. tt)
 
-  in-own : (x : OwnPlace) (k : Kind) → Calm p cap s (P.own x) → ((g : Nums) → OwnO w cap x g) → Starts w p cap s (P.own x) p k
-  in-own x k c o = on-own (P.own x) p k c refl (λ f i g. o g) (λ f i k g l. tt) (λ g. tt)
+  in-own : (x : OwnPlace) (k : Kind) → Calm p cap s (Place.Own x) → ((g : Nums) → OwnO w cap x g) → Starts w p cap s (Place.Own x) p k
+  in-own x k c o = on-own (Place.Own x) p k c refl (λ f i g. o g) (λ f i k g l. tt) (λ g. tt)
 
-  to-book : (r : Rule) (k : Kind) → Starts w p cap s (P.book (G.drain r) (booking k)) p k
+  to-book : (r : Rule) (k : Kind) → Starts w p cap s (Place.Book (BookingCall.Drain r) (booking k)) p k
   to-book r k = record {
     calm = record { waits-no = refl; hand-no = refl; holds-no = λ y. refl };
     source-is = refl;
     own = λ f i g. tt;
-    bkr = λ f i k₂ g l e. first k k₂ f (limitOf w (G.drain r)) g (e refl);
+    bkr = λ f i k₂ g l e. first k k₂ f (limitOf w (BookingCall.Drain r)) g (e refl);
     still = λ g. starts k g;
   }
     where
       first : (k k₂ : Kind) (fm limit : ℕ) (g : Nums) → k₂ ≡ k → BkB w fm limit (booking k) k₂ g
-      first lifo k₂ fm limit g e = e
-      first fifo k₂ fm limit g e = e
+      first Kind.Lifo k₂ fm limit g e = e
+      first Kind.Fifo k₂ fm limit g e = e
 
       starts : (k : Kind) (g : Nums) → bookStill w (booking k) g
-      starts lifo g = tt
-      starts fifo g = tt
+      starts Kind.Lifo g = tt
+      starts Kind.Fifo g = tt
 
-  start-lifo : (c : Call) → Starts w p cap s (start lifo c) (callSource p c) lifo
-  start-lifo (C.push t) = in-lifo _ p refl (λ g. refl)
-  start-lifo C.pop = in-lifo _ p refl (λ g. refl)
-  start-lifo C.extend = in-lifo _ p refl (λ g. refl)
-  start-lifo (C.drain r) = to-book r lifo
-  start-lifo C.next = in-own P.nextItem lifo (record { waits-no = refl; hand-no = refl; holds-no = λ y. refl }) (λ g. tt)
-  start-lifo C.drop = in-own P.dropItem lifo (record { waits-no = refl; hand-no = refl; holds-no = λ y. refl }) (λ g. tt)
-  start-lifo (C.steal x r) = in-lifo _ x refl (λ g. refl)
-  start-lifo (C.take x r) = in-lifo _ x refl (λ g. refl)
-  start-lifo C.spare = in-lifo _ p refl (λ g. refl)
-  start-lifo C.empty = in-lifo _ p refl (λ g. refl)
+  start-lifo : (c : Call) → Starts w p cap s (start Kind.Lifo c) (callSource p c) Kind.Lifo
+  start-lifo (Call.Push t) = in-lifo _ p refl (λ g. refl)
+  start-lifo Call.Pop = in-lifo _ p refl (λ g. refl)
+  start-lifo Call.Extend = in-lifo _ p refl (λ g. refl)
+  start-lifo (Call.Drain r) = to-book r Kind.Lifo
+  start-lifo Call.Next = in-own OwnPlace.NextItem Kind.Lifo (record { waits-no = refl; hand-no = refl; holds-no = λ y. refl }) (λ g. tt)
+  start-lifo Call.Drop = in-own OwnPlace.DropItem Kind.Lifo (record { waits-no = refl; hand-no = refl; holds-no = λ y. refl }) (λ g. tt)
+  start-lifo (Call.Steal x r) = in-lifo _ x refl (λ g. refl)
+  start-lifo (Call.Take x r) = in-lifo _ x refl (λ g. refl)
+  start-lifo Call.Spare = in-lifo _ p refl (λ g. refl)
+  start-lifo Call.Empty = in-lifo _ p refl (λ g. refl)
 
-  start-fifo : (c : Call) → Starts w p cap s (start fifo c) (callSource p c) fifo
-  start-fifo (C.push t) = in-fifo _ p refl (λ f g. refl)
-  start-fifo C.pop = in-fifo _ p refl (λ f g. refl)
-  start-fifo C.extend = in-fifo _ p refl (λ f g. refl)
-  start-fifo (C.drain r) = to-book r fifo
-  start-fifo C.next = in-own P.nextItem fifo (record { waits-no = refl; hand-no = refl; holds-no = λ y. refl }) (λ g. tt)
-  start-fifo C.drop = in-own P.dropItem fifo (record { waits-no = refl; hand-no = refl; holds-no = λ y. refl }) (λ g. tt)
-  start-fifo (C.steal x r) = in-fifo _ x refl (λ f g. refl)
-  start-fifo (C.take x r) = in-fifo _ x refl (λ f g. refl)
-  start-fifo C.spare = in-fifo _ p refl (λ f g. refl)
-  start-fifo C.empty = in-fifo _ p refl (λ f g. refl)
+  start-fifo : (c : Call) → Starts w p cap s (start Kind.Fifo c) (callSource p c) Kind.Fifo
+  start-fifo (Call.Push t) = in-fifo _ p refl (λ f g. refl)
+  start-fifo Call.Pop = in-fifo _ p refl (λ f g. refl)
+  start-fifo Call.Extend = in-fifo _ p refl (λ f g. refl)
+  start-fifo (Call.Drain r) = to-book r Kind.Fifo
+  start-fifo Call.Next = in-own OwnPlace.NextItem Kind.Fifo (record { waits-no = refl; hand-no = refl; holds-no = λ y. refl }) (λ g. tt)
+  start-fifo Call.Drop = in-own OwnPlace.DropItem Kind.Fifo (record { waits-no = refl; hand-no = refl; holds-no = λ y. refl }) (λ g. tt)
+  start-fifo (Call.Steal x r) = in-fifo _ x refl (λ f g. refl)
+  start-fifo (Call.Take x r) = in-fifo _ x refl (λ f g. refl)
+  start-fifo Call.Spare = in-fifo _ p refl (λ f g. refl)
+  start-fifo Call.Empty = in-fifo _ p refl (λ f g. refl)
 
 pub starts : (w p cap : ℕ) (s : List ℕ) (k : Kind) (c : Call) → Starts w p cap s (start k c) (callSource p c) k
-starts w p cap s lifo c = start-lifo w p cap s c
-starts w p cap s fifo c = start-fifo w p cap s c
-
-pub idle-is : (pl : Place) → isIdle pl ≡ true → pl ≡ P.idle
-idle-is P.idle e = refl
-idle-is (P.lifo x) e = absurd (let z : _≡_ {A = ℕ} 0 1 = cc in omega arith)
-idle-is (P.fifo x) e = absurd (let z : _≡_ {A = ℕ} 0 1 = cc in omega arith)
-idle-is (P.own x) e = absurd (let z : _≡_ {A = ℕ} 0 1 = cc in omega arith)
-idle-is (P.book h x) e = absurd (let z : _≡_ {A = ℕ} 0 1 = cc in omega arith)
-idle-is (P.move x) e = absurd (let z : _≡_ {A = ℕ} 0 1 = cc in omega arith)
-idle-is (P.close h x) e = absurd (let z : _≡_ {A = ℕ} 0 1 = cc in omega arith)
+starts w p cap s Kind.Lifo c = start-lifo w p cap s c
+starts w p cap s Kind.Fifo c = start-fifo w p cap s c
 
 -- ---- the place changed
 
 module _ (w : ℕ) {r : Run} (b : Good w r) (p : ℕ) (pn : p < r .machine .parties) (pl : Place) (source : ℕ)
     (sn : source < r .machine .parties)
-    (idle : b .members p .pl ≡ P.idle) (st : Starts w p (b .cells p .cap) (b .cells p .s) pl source (b .cells p .kind)) where
+    (idle : b .members p .pl ≡ Place.Idle) (st : Starts w p (b .cells p .cap) (b .cells p .s) pl source (b .cells p .kind)) where
   m₂ : Member
   m₂ = record {
     pl = pl;
@@ -126,11 +125,11 @@ module _ (w : ℕ) {r : Run} (b : Good w r) (p : ℕ) (pn : p < r .machine .part
     drain = b .members p .drain;
     hand = b .members p .hand;
     items = b .members p .items;
-    fm = b .members p .fm;
-    fill = b .members p .fill;
+    fm = 0;
+    fill = 0;
   }
 
-  old : OwnF w (b .members p .fill) (b .members p .items) (b .members p .hand) P.idle (b .cells p .kind) (b .cells p .cap) (b .cells p .s)
+  old : OwnF w (b .members p .fill) (b .members p .items) (b .members p .hand) Place.Idle (b .cells p .kind) (b .cells p .cap) (b .cells p .s)
       (b .cells p .g) (b .cells p .l)
   old = subst (λ (z : Place). OwnF w (b .members p .fill) (b .members p .items) (b .members p .hand) z (b .cells p .kind)
       (b .cells p .cap) (b .cells p .s) (b .cells p .g) (b .cells p .l)) idle (b .inv .own p)
@@ -140,13 +139,13 @@ module _ (w : ℕ) {r : Run} (b : Good w r) (p : ℕ) (pn : p < r .machine .part
   own₂ = record {
     wait-is = old .wait-is ∙ ap (tokens (b .cells p .cap) (b .cells p .s) (tail (b .cells p .g))) (sym (st .calm .waits-no));
     hand-is = old .hand-is ∙ sym (st .calm .hand-no);
-    at = st .own (b .members p .fill) (b .members p .items) (b .cells p .g);
+    at = st .own 0 (b .members p .items) (b .cells p .g);
   }
 
   bkr₂ : Bkr w (r .machine .parties) p m₂ (b .cells (sourceOf p pl))
   unfolding m₂
   bkr₂ =
-      st .bkr (b .members p .fm) (b .members p .items) (b .cells (sourceOf p pl) .kind) (b .cells (sourceOf p pl) .g)
+      st .bkr 0 (b .members p .items) (b .cells (sourceOf p pl) .kind) (b .cells (sourceOf p pl) .g)
       (b .cells (sourceOf p pl) .l)
       (λ e. ap (λ (z : ℕ). b .cells z .kind) (st .source-is ∙ e))
 
@@ -204,7 +203,7 @@ module _ (w : ℕ) {r : Run} (b : Good w r) (p : ℕ) (pn : p < r .machine .part
     machine = withParty (r .machine) p (record { place = pl; drain = partyAt (r .machine) p .drain });
     items = r .items;
     record′ = r .record′;
-    notes = r .notes;
+    notes = begunNotes p (r .notes);
   })
   unfolding m₂
   good-placed = record {
@@ -220,9 +219,9 @@ module _ (w : ℕ) {r : Run} (b : Good w r) (p : ℕ) (pn : p < r .machine .part
         ∙ ap lists (plain-ext (b .cells) (update (b .members) p m₂) (plainOf (b .cells) (b .members) (b .out) (b .gone)) (λ y. refl)
         (λ z. sym (column-s (λ (m : Member). m .hand) (b .members) p m₂ refl z)));
     moved-are = b .moved-are;
-    first-are = λ z. b .first-are z ∙ sym (column-s (λ (m : Member). m .fm) (b .members) p m₂ refl z);
-    fill-are = λ z. b .fill-are z ∙ sym (column-s (λ (m : Member). m .fill) (b .members) p m₂ refl z);
+    first-are = λ z. sym (column (λ (m : Member). m .fm) (b .members) (r .notes .first) (λ v. sym (b .first-are v)) p m₂ 0 refl z);
+    fill-are = λ z. sym (column (λ (m : Member). m .fill) (b .members) (r .notes .fill) (λ v. sym (b .fill-are v)) p m₂ 0 refl z);
     still =
         λ z lt e. update-elim (b .members) p m₂ (λ (m : Member). Still w (m .pl) (b .cells (sourceOf z (m .pl)) .g)) z
-        (λ _. st .still (b .cells (sourceOf z pl) .g)) (λ _. b .still z lt e);
+        (λ _. st .still (b .cells (sourceOf z pl) .g)) (λ ne. b .still z lt (sym (update-other (r .notes .opened) p false z ne) ∙ e));
   }

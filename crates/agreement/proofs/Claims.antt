@@ -1,22 +1,25 @@
--- Claims 1, 2 and 4 along the schedules of the table, computed without the theorem. tests/bites asks of wrong tables that the verdict
+-- Claims 1, 2, 4, 6 and 7 along the schedules of the table, computed without the theorem. tests/bites asks of wrong tables that the verdict
 -- turns round: that some schedule which keeps the premise breaks a claim.
 use mathlib.Core.Path.{_≡_, refl}
 use mathlib.Core.Bool.{Bool, true, false, not}
 use mathlib.Core.List.{List, [], _∷_}
 use Prim.Native.Nat.{ℕ, zero, suc}
-use lib.Dec.{eqb}
-use Rattle.words.specs.Word.{orb, doubled, powBelow}
-use Rattle.tables.specs.Rule.{Mark, plain}
-use Rattle.tables.specs.Machine.{Machine, queueAt, baseOf}
-use Rattle.tables.specs.Answer as A
-use Rattle.tables.specs.Answer.{Answer}
-use Rattle.tables.specs.Step.{andb, sourceAt, opening, begin, step, alone, sound, soundTo, openTo, overTo, closedQueues, idleParties, openRefusal, beginRefusal, stepRefusal, aloneRefusal, taken, runs, appended}
-use Rattle.tables.specs.Lists.{Holder, nobody, party, Lists, Plain, isNil, Replayed, impossible, lists, replay, does, can, update, offer, accept, pop, book, leave, arrive, shut, tokens, restingAt}
-use Rattle.tables.specs.Causes.{Notes, notes}
-use Rattle.agreement.specs.Shows.{holderTo, shows}
-use Rattle.agreement.specs.Statement.{Line, begins, steps, alones, Run, kindsOf, replayed, stepped, repeated, line, runOf}
-use Rattle.agreement.proofs.Tests.{unit, less, both, all-below, bookTest, placeTest, premiseTest, repeatTest, lineTest, keepsTest}
-use Rattle.agreement.proofs.Schedules.{pushes, times, startOf, endOf, Row, table}
+use lib.Dec.{eqb, leb, ltb}
+use Rattle.words.specs.Word.{orb}
+use Rattle.tables.specs.declared.call.Mark.{Mark}
+use Rattle.tables.specs.declared.call.Mark.the-variants as Mark
+use Rattle.tables.specs.declared.state.Machine.{Machine}
+use Rattle.tables.specs.Machine.{queueAt}
+use Rattle.tables.specs.Answer.{Reason, nothing, noneRested, noneFree, oneOpen, noneToBook, answerRow}
+use Rattle.tables.specs.Rule.{ruled}
+use Rattle.tables.specs.Table.{ruleOf}
+use Rattle.tables.specs.Step.{andb, placeAt, sourceAt, step, alone}
+use Rattle.tables.specs.Lists.{Holder, nobody, party, Lists, Plain, isNil, Replayed, impossible, lists, replay, tokens, restingAt}
+use Rattle.tables.specs.Causes.{Notes, fillOf, atBooking, seenAt, isSteal}
+use Rattle.tables.specs.Shows.{holderTo, shows, handAt}
+use Rattle.agreement.specs.Statement.{Line, begins, steps, alones, Run, kindsOf, replayed, stepped, line}
+use Rattle.agreement.proofs.Tests.{keepsTest, machine-clauses, record-clauses, test-clauses}
+use Rattle.agreement.proofs.Schedules.{pushes, times, startOf, Row, table}
 
 unfoldable pub sameTokens : List ℕ → List ℕ → Bool
 sameTokens [] [] = true
@@ -35,42 +38,42 @@ sameLists a b =
     andb (sameTokens (a .waiting) (b .waiting)) (andb (sameTokens (a .resting) (b .resting)) (andb (sameTokens (a .booked) (b .booked))
     (andb (sameHolder (a .holder) (b .holder)) (eqb (a .kept) (b .kept)))))
 
--- claims 1 and 2, of two queues
+-- claims 1, 2, 6 and 7, of two parties and their queues
+abbrev pub agreeingAt : Machine → List ℕ → Plain → ℕ → Bool
+agreeingAt m xs a q =
+    andb (sameLists (a .queue q) (shows 3 m xs q)) (andb (sameTokens (a .hand q) (handAt 3 m xs q)) (leb (fillOf (a .queue q)) (queueAt m q .capacity)))
+
 abbrev pub agreeing : Machine → List ℕ → Replayed → Bool
 agreeing m xs impossible = false
-agreeing m xs (lists a) = andb (sameLists (a .queue 0) (shows 3 m xs 0)) (sameLists (a .queue 1) (shows 3 m xs 1))
+agreeing m xs (lists a) = andb (agreeingAt m xs a 0) (agreeingAt m xs a 1)
 
 abbrev pub agreed : Run → Bool
 agreed r = agreeing (r .machine) (r .items) (replay (kindsOf (r .machine)) (r .record′))
 
--- claim 4 (no schedule of the table has a rule that gives 0)
-abbrev pub caused : Machine → ℕ → Plain → Notes → Answer → Bool
-caused m p a n A.none = isNil (a .queue p .resting)
-caused m p a n (A.full t) = eqb (n .fill p) (queueAt m p .capacity)
-caused m p a n A.busy = n .opened p
-caused m p a n A.empty = orb (isNil (a .queue (sourceAt m p) .resting)) (eqb (n .fill p) (queueAt m p .capacity))
-caused m p a n A.pending = true
-caused m p a n A.pushed = true
-caused m p a n (A.popped t) = true
-caused m p a n (A.extended k) = true
-caused m p a n (A.stolen k) = true
-caused m p a n (A.taken t k) = true
-caused m p a n (A.drain k) = true
-caused m p a n (A.item t) = true
-caused m p a n A.done = true
-caused m p a n A.closed = true
-caused m p a n (A.spare k) = true
-caused m p a n A.yes = true
-caused m p a n A.no = true
+-- claim 4, by the answer's reason
+abbrev pub emptied : Machine → ℕ → Mark → Plain → Notes → Bool
+emptied m p k a n =
+    orb (isNil (a .queue (sourceAt m p) .resting))
+    (atBooking false (λ g b. orb (andb (isSteal g) (eqb (n .fill p) (queueAt m p .capacity)))
+    (andb (ltb 0 (seenAt 3 b (queueAt m (sourceAt m p) .pushes))) (eqb (ruled (ruleOf g) k (seenAt 3 b (queueAt m (sourceAt m p) .pushes))) 0)))
+    (placeAt m p))
+
+abbrev pub caused : Machine → ℕ → Mark → Plain → Notes → Reason → Bool
+caused m p k a n nothing = true
+caused m p k a n noneRested = isNil (a .queue p .resting)
+caused m p k a n noneFree = eqb (n .fill p) (queueAt m p .capacity)
+caused m p k a n oneOpen = n .opened p
+caused m p k a n noneToBook = emptied m p k a n
 
 abbrev pub stepHolds : Run → ℕ → Mark → Bool
 stepHolds r p k =
     andb (agreed (stepped 3 2 r p k))
-    (caused (r .machine) p (replayed (r .machine) (r .record′)) (stepped 3 2 r p k .notes) (step 3 2 (r .machine) (r .items) p k .answer))
+    (caused (r .machine) p k (replayed (r .machine) (r .record′)) (stepped 3 2 r p k .notes)
+    (answerRow (step 3 2 (r .machine) (r .items) p k .answer) .reason))
 
 unfoldable pub repeatHolds : ℕ → Run → ℕ → Bool
 repeatHolds zero r p = true
-repeatHolds (suc n) r p = andb (stepHolds r p plain) (repeatHolds n (stepped 3 2 r p plain) p)
+repeatHolds (suc n) r p = andb (stepHolds r p Mark.Plain) (repeatHolds n (stepped 3 2 r p Mark.Plain) p)
 
 abbrev pub lineHolds : Run → Line → Bool
 lineHolds r (begins p c) = true
@@ -89,5 +92,5 @@ broken (x ∷ l) =
     (broken l)
 
 pub verdict : broken table ≡ false
-unfolding broken table runHolds repeatHolds sameTokens pushes times endOf unit less both all-below bookTest placeTest premiseTest repeatTest lineTest keepsTest runOf repeated opening begin step alone sound soundTo openTo overTo closedQueues idleParties openRefusal beginRefusal stepRefusal aloneRefusal taken runs appended baseOf doubled powBelow notes replay does can update offer accept pop book leave arrive shut tokens restingAt holderTo shows
+unfolding machine-clauses record-clauses test-clauses broken table runHolds repeatHolds sameTokens pushes times tokens restingAt holderTo shows handAt
 verdict = refl

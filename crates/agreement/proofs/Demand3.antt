@@ -16,6 +16,8 @@ agrees w most r s f k =
       sum = run-sum w most r s f (c .plain) (c .possible);
       caused = c .caused;
       alone-agrees = alone-agrees w most (runOf w most r s);
+      in-hand = c .in-hand;
+      fits = c .fits;
     }
 
 pub demand3 : (w most : ℕ) → Demand3 w most

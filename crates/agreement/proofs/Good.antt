@@ -1,30 +1,35 @@
--- What holds of a run at every moment, and that a step which nothing refuses keeps it.
+-- What holds of a run at every moment, and that a step which nothing refuses keeps it: the step is one of the tables (Turn), its effect is
+-- one that the lists can do, and the token that its answer hands out is in hand.
 use mathlib.Core.Path.{_≡_, refl, sym, ap, subst, subst₂, fun-ext, _∙_}
-use mathlib.Core.Bool.{Bool, true, false}
+use mathlib.Core.Bool.{Bool, true, false, true≢false}
 use mathlib.Core.List.{List}
 use Prim.Native.Nat.{ℕ, suc, _+_, _-_, _%_, _^_, _<_}
 use native.Mathlib.Omega.{arith}
 use Rattle.words.specs.Word.{orb}
-use Rattle.tables.specs.Rule.{Kind, lifo, Mark}
-use Rattle.tables.specs.Place as P
-use Rattle.tables.specs.Place.{Place, BookPlace}
-use Rattle.tables.specs.Machine.{Queue}
-use Rattle.tables.specs.Effect as E
-use Rattle.tables.specs.Effect.{Deed}
-use Rattle.tables.specs.Row.{Next}
+use Rattle.tables.specs.declared.access.Next.{Next}
+use Rattle.tables.specs.declared.call.Mark.{Mark}
+use Rattle.tables.specs.declared.state.Kind.{Kind}
+use Rattle.tables.specs.declared.state.Kind.the-variants as Kind
+use Rattle.tables.specs.declared.state.Queue.{Queue}
+use Rattle.tables.specs.declared.place.BookPlace.{BookPlace}
+use Rattle.tables.specs.declared.place.BookPlace.the-variants as BookPlace
+use Rattle.tables.specs.declared.place.Place.{Place}
 use Rattle.tables.specs.Tables.{sourceOf}
 use Rattle.tables.specs.Table.{limitOf}
 use Rattle.tables.specs.Step.{Outcome, placeAt, sourceAt}
-use Rattle.tables.specs.Lists.{isOpen, Lists, Plain, update, does, named, inFront, lists, replay}
-use Rattle.tables.specs.Causes.{booksFirst, isFirstLoad, placePremise, Premise}
+use Rattle.tables.specs.Answer.{handedOut}
+use Rattle.tables.specs.Effect.{changeRow}
+use Rattle.tables.specs.Lists.{isOpen, Lists, Plain, update, does, inFront, lists, replay}
+use Rattle.tables.specs.Causes.{isFirst, isFirstLoad, placePremise, Premise}
+use Rattle.tables.proofs.Bools.{pick-if}
 use Rattle.tables.proofs.Updates.{update-same}
 use Rattle.agreement.specs.Statement.{Run, didEntry, recorded, kindsOf}
 use Rattle.agreement.proofs.Nums.{Who, noone, call, drain, holderOf, Nums, head}
 use Rattle.agreement.proofs.Whole.{Part, LifoPart}
 use Rattle.agreement.proofs.Frame.{column-over}
 use Rattle.agreement.proofs.Facts.{BkB, BkF}
-use Rattle.agreement.proofs.Steps.{handed, handOver, bookStill, Still}
-use Rattle.agreement.proofs.Cells.{Cell, Member, MInv, plainOf, deedAt, does-hand, Ran}
+use Rattle.agreement.proofs.Steps.{handed, handOver, bookStill, Still, at-booking}
+use Rattle.agreement.proofs.Cells.{Cell, Member, MInv, plainOf, namedQueue, does-hand, Ran}
 use Rattle.agreement.proofs.Turn.{step-go}
 use Rattle.agreement.proofs.Record.{Fits, siteG, didG, nextG, takenG, place-is, source-is, site-in, kinds-s}
 use Rattle.agreement.proofs.Replay.{replay-did, Said, replay-said, plain-ext, update-ext}
@@ -60,46 +65,39 @@ closed-now (call p) e = absurd (let z : _≡_ {A = ℕ} 0 1 = cc in omega arith)
 closed-now (drain p) e = absurd (let z : _≡_ {A = ℕ} 0 1 = cc in omega arith)
 
 -- a first load remembers nothing yet
-book-first : (w : ℕ) (b : BookPlace) (g : Nums) → booksFirst b ≡ true → bookStill w b g
-book-first w P.lifoPacked g e = tt
-book-first w (P.lifoDone q) g e = absurd (let z : _≡_ {A = ℕ} 0 1 = cc in omega arith)
-book-first w (P.lifoCount q d) g e = absurd (let z : _≡_ {A = ℕ} 0 1 = cc in omega arith)
-book-first w (P.lifoCas q d n) g e = absurd (let z : _≡_ {A = ℕ} 0 1 = cc in omega arith)
-book-first w P.fifoPacked g e = tt
-book-first w (P.fifoTail q) g e = tt
-book-first w (P.fifoCas q n) g e = tt
+book-first : (w : ℕ) (b : BookPlace) (g : Nums) → isFirst b ≡ true → bookStill w b g
+book-first w BookPlace.LifoPacked g e = tt
+book-first w (BookPlace.LifoCompleted q) g e = absurd (true≢false (sym e))
+book-first w (BookPlace.LifoPushes q d) g e = absurd (true≢false (sym e))
+book-first w (BookPlace.LifoCas q d n) g e = absurd (true≢false (sym e))
+book-first w BookPlace.FifoPacked g e = tt
+book-first w (BookPlace.FifoTail q) g e = tt
+book-first w (BookPlace.FifoCas q n) g e = tt
 
 pub still-first : (w : ℕ) (pl : Place) (g : Nums) → isFirstLoad pl ≡ true → Still w pl g
-still-first w P.idle g e = tt
-still-first w (P.lifo x) g e = tt
-still-first w (P.fifo x) g e = tt
-still-first w (P.own x) g e = tt
-still-first w (P.book h b) g e = book-first w b g e
-still-first w (P.move x) g e = tt
-still-first w (P.close e c) g e₂ = tt
+still-first w pl g =
+    at-booking (λ (z : Place) (t : Bool) (S : Type 0). t ≡ true → S) false (Unit {0}) (λ h b. isFirst b) (λ h b. bookStill w b g)
+    (λ z e. tt) (λ h b e. book-first w b g e) pl
 
 -- a remembered head stays the head while a LIFO queue's head does
-book-keeps : (w fm limit : ℕ) (b : BookPlace) (k : Kind) (g g′ : Nums) → BkB w fm limit b k g → (k ≡ lifo → head g′ ≡ head g)
+book-keeps : (w fm limit : ℕ) (b : BookPlace) (k : Kind) (g g′ : Nums) → BkB w fm limit b k g → (k ≡ Kind.Lifo → head g′ ≡ head g)
     → bookStill w b g → bookStill w b g′
-book-keeps w fm limit P.lifoPacked k g g′ a h s = tt
-book-keeps w fm limit (P.lifoDone q) k g g′ a h s = s ∙ ap (λ (n : ℕ). n % 2 ^ w) (sym (h (a .0)))
-book-keeps w fm limit (P.lifoCount q d) k g g′ a h s = s ∙ ap (λ (n : ℕ). n % 2 ^ w) (sym (h (a .0)))
-book-keeps w fm limit (P.lifoCas q d n) k g g′ a h s = s ∙ ap (λ (n : ℕ). n % 2 ^ w) (sym (h (a .0)))
-book-keeps w fm limit P.fifoPacked k g g′ a h s = tt
-book-keeps w fm limit (P.fifoTail q) k g g′ a h s = tt
-book-keeps w fm limit (P.fifoCas q n) k g g′ a h s = tt
+book-keeps w fm limit BookPlace.LifoPacked k g g′ a h s = tt
+book-keeps w fm limit (BookPlace.LifoCompleted q) k g g′ a h s = s ∙ ap (λ (n : ℕ). n % 2 ^ w) (sym (h (a .0)))
+book-keeps w fm limit (BookPlace.LifoPushes q d) k g g′ a h s = s ∙ ap (λ (n : ℕ). n % 2 ^ w) (sym (h (a .0)))
+book-keeps w fm limit (BookPlace.LifoCas q d n) k g g′ a h s = s ∙ ap (λ (n : ℕ). n % 2 ^ w) (sym (h (a .0)))
+book-keeps w fm limit BookPlace.FifoPacked k g g′ a h s = tt
+book-keeps w fm limit (BookPlace.FifoTail q) k g g′ a h s = tt
+book-keeps w fm limit (BookPlace.FifoCas q n) k g g′ a h s = tt
 
 pub still-keeps : (w p fm : ℕ) (items : List ℕ) (pl : Place) (k : Kind) (g g′ : Nums) (l : Lists) → BkF w p fm items pl k g l
-    → (k ≡ lifo → head g′ ≡ head g) → Still w pl g → Still w pl g′
-still-keeps w p fm items P.idle k g g′ l a h s = tt
-still-keeps w p fm items (P.lifo x) k g g′ l a h s = tt
-still-keeps w p fm items (P.fifo x) k g g′ l a h s = tt
-still-keeps w p fm items (P.own x) k g g′ l a h s = tt
-still-keeps w p fm items (P.book u b) k g g′ l a h s = book-keeps w fm (limitOf w u) b k g g′ a h s
-still-keeps w p fm items (P.move x) k g g′ l a h s = tt
-still-keeps w p fm items (P.close e c) k g g′ l a h s = tt
+    → (k ≡ Kind.Lifo → head g′ ≡ head g) → Still w pl g → Still w pl g′
+still-keeps w p fm items pl k g g′ l =
+    at-booking (λ (z : Place) (S S′ : Type 0). BkF w p fm items z k g l → (k ≡ Kind.Lifo → head g′ ≡ head g) → S → S′)
+    (Unit {0}) (Unit {0}) (λ h b. bookStill w b g) (λ h b. bookStill w b g′)
+    (λ z a h s. tt) (λ u b a h s. book-keeps w fm (limitOf w u) b k g g′ a h s) pl
 
-pub lifo-part : (k : Kind) (g : Nums) → k ≡ lifo → Part k g → LifoPart g
+pub lifo-part : (k : Kind) (g : Nums) → k ≡ Kind.Lifo → Part k g → LifoPart g
 lifo-part k g e a = subst (λ (z : Kind). Part z g) e a
 
 module _ (w : ℕ) (wide : 1 < w) {r : Run} (b : Good w r) (p : ℕ) (pn : p < r .machine .parties) (mark : Mark)
@@ -114,7 +112,7 @@ module _ (w : ℕ) (wide : 1 < w) {r : Run} (b : Good w r) (p : ℕ) (pn : p < r
   y = sourceOf p (b .members p .pl)
 
   abbrev pub q : ℕ
-  q = deedAt (next .deed) x y
+  q = namedQueue (next .change) x y
 
   abbrev pub after : Outcome
   after = takenG w (r .machine) (r .items) (b .fits) p pn mark
@@ -135,19 +133,9 @@ module _ (w : ℕ) (wide : 1 < w) {r : Run} (b : Good w r) (p : ℕ) (pn : p < r
   a = plainOf (b .cells) (b .members) (b .out) (b .gone)
 
   q-in : q < r .machine .parties
-  q-in = go (next .deed)
-    where
-      go : (e : Deed) → deedAt e x y < r .machine .parties
-      go E.nothing = site-in w (r .machine) (r .items) (b .fits) p pn mark
-      go (E.offered t) = site-in w (r .machine) (r .items) (b .fits) p pn mark
-      go E.accepted = site-in w (r .machine) (r .items) (b .fits) p pn mark
-      go E.popped = site-in w (r .machine) (r .items) (b .fits) p pn mark
-      go (E.booked k) = site-in w (r .machine) (r .items) (b .fits) p pn mark
-      go (E.landed k) = b .fits .sources p pn
-      go (E.landedLast k) = b .fits .sources p pn
-      go E.drained = site-in w (r .machine) (r .items) (b .fits) p pn mark
-      go (E.dropped k) = site-in w (r .machine) (r .items) (b .fits) p pn mark
-      go E.closed = site-in w (r .machine) (r .items) (b .fits) p pn mark
+  q-in =
+      pick-if (λ (z : ℕ). z < r .machine .parties) (changeRow (next .change) .lands) (λ _. b .fits .sources p pn)
+      (λ _. site-in w (r .machine) (r .items) (b .fits) p pn mark)
 
   kind-at : (z : ℕ) → z < r .machine .parties → kindsOf (r .machine) z ≡ b .cells z .kind
   kind-at z lt = ap (λ (v : Queue). v .kind) (b .fits .q-are z lt)
@@ -158,24 +146,24 @@ module _ (w : ℕ) (wide : 1 < w) {r : Run} (b : Good w r) (p : ℕ) (pn : p < r
   -- ---- the lists
 
   pub done : Plain
-  done = does (kindsOf (r .machine)) p q (next .deed) a
+  done = does (kindsOf (r .machine)) p q (next .change) a
 
   pub done-is : replay (kindsOf (r .machine)) (didEntry (after .effect) (r .record′)) ≡ lists done
   unfolding done a
-  done-is = replay-did (kindsOf (r .machine)) p x y (next .deed) (r .record′) a (b .possible) (ran .can-s)
+  done-is = replay-did (kindsOf (r .machine)) p x y (next .change) (r .record′) a (b .possible) (ran .can-s)
 
   pub done-queue : (z : ℕ) → done .queue z ≡ ran .cells′ z .l
   unfolding done a
   done-queue z = ran .ls-are (kindsOf (r .machine)) (b .out) (b .gone) (kind-at x (site-in w (r .machine) (r .items) (b .fits) p pn mark)) z
 
   in-hand : List ℕ
-  in-hand = handed (b .cells q .kind) (next .deed) (b .cells q .l) (b .members p .hand)
+  in-hand = handed (b .cells q .kind) (next .change) (b .cells q .l) (b .members p .hand)
 
   done-hand : (z : ℕ) → done .hand z ≡ update (λ (v : ℕ). b .members v .hand) p in-hand z
   unfolding done a in-hand
   done-hand z =
-      does-hand (kindsOf (r .machine)) p q (next .deed) a z
-      ∙ ap (λ (k : Kind). update (λ (v : ℕ). b .members v .hand) p (handed k (next .deed) (b .cells q .l) (b .members p .hand)) z)
+      does-hand (kindsOf (r .machine)) p q (next .change) a z
+      ∙ ap (λ (k : Kind). update (λ (v : ℕ). b .members v .hand) p (handed k (next .change) (b .cells q .l) (b .members p .hand)) z)
       (kind-at q q-in)
 
   done-mine : done .hand p ≡ in-hand
@@ -185,7 +173,7 @@ module _ (w : ℕ) (wide : 1 < w) {r : Run} (b : Good w r) (p : ℕ) (pn : p < r
   unfolding in-hand
   spoke =
       replay-said (kindsOf (r .machine)) p (didEntry (after .effect) (r .record′)) done done-is (next .answer)
-      (subst (λ (h : List ℕ). inFront (named (next .answer)) h ≡ true) (sym done-mine) (ran .fair))
+      (subst (λ (h : List ℕ). inFront (handedOut (next .answer)) h ≡ true) (sym done-mine) (ran .fair))
 
   spoke-hand : (z : ℕ) → spoke .plain .hand z ≡ ran .members′ z .hand
   unfolding in-hand

@@ -1,13 +1,15 @@
--- What a whole run keeps: a sound record, parties, kinds and capacities, the number of items; its record names its own parties only.
+-- What a whole run keeps, since each step and each begin does (tables/proofs/Steps): a sound record, parties, kinds and capacities, the number
+-- of items; its record names its own parties only.
 use Prim.Native.Nat.{ℕ, zero, suc, _+_, _<_}
 use mathlib.Core.Path.{_≡_, refl, ap, fun-ext, _∙_}
 use mathlib.Core.Bool.{true}
 use mathlib.Core.List.{List, [], _∷_}
 use native.Mathlib.Omega.{arith}
 use lib.ListN.{length}
-use Rattle.tables.specs.Rule.{Mark, plain}
+use Rattle.tables.specs.declared.call.Mark.{Mark}
+use Rattle.tables.specs.declared.call.Mark.the-variants as Mark
 use Rattle.tables.specs.Answer.{isPending}
-use Rattle.tables.specs.Effect.{isNothing}
+use Rattle.tables.specs.Effect.{isNone}
 use Rattle.tables.specs.Lists.{Plain, Entry, lists, replay}
 use Rattle.tables.specs.Step.{Outcome, sound, taken, alone}
 use Rattle.tables.proofs.Bools.{pick-if}
@@ -27,7 +29,7 @@ module _ (w most : ℕ) where
       → P (repeated w most n r p)
   unfolding repeated
   repeated-if P f zero r p h = h
-  repeated-if P f (suc n) r p h = repeated-if P f n (stepped w most r p plain) p (f r p plain h)
+  repeated-if P f (suc n) r p h = repeated-if P f n (stepped w most r p Mark.Plain) p (f r p Mark.Plain h)
 
   pub run-if : (P : Run → Type 0) → ((r : Run) (p : ℕ) (c : _) → P r → P (line w most r (begins p c)))
       → ((r : Run) (p : ℕ) (k : Mark) → P r → P (stepped w most r p k))
@@ -74,7 +76,7 @@ module _ (w most : ℕ) where
       → Below n (recorded p o l)
   unfolding Below
   below-recorded n p o l h e b =
-      let d : Below n (didEntry (o .effect) l) = pick-if (Below n) (isNothing (o .effect .deed)) (λ i. b) (λ i. (e, b)) in
+      let d : Below n (didEntry (o .effect) l) = pick-if (Below n) (isNone (o .effect .change)) (λ i. b) (λ i. (e, b)) in
       pick-if (Below n) (isPending (o .answer)) (λ i. d) (λ i. (h, d))
 
   stepped-below : (n : ℕ) (r : Run) (p : ℕ) (k : Mark) → (r .machine .parties ≡ n) × Below n (r .record′)

@@ -1,4 +1,5 @@
--- The landing: it changes the lists of the source and of the destination, framed one after the other.
+-- The landing: it changes the lists of the source and of the destination, framed one after the other: booked tokens leave the one, and the
+-- same tokens, which stand past the tail of the other, are let in there.
 use mathlib.Core.Path.{_≡_, refl, sym, ap, ap₂, subst, _∙_}
 use mathlib.Core.Logic.{_≢_, inr}
 use mathlib.Core.Bool.{true}
@@ -9,82 +10,87 @@ use lib.ListN.{length, take, getD}
 use lib.Dec.{eqb}
 use borrow.Author.Tests.{eq-eqb, lt-ltb, le-leb}
 use Rattle.words.specs.Word.{orb, plus, minus}
-use Rattle.tables.specs.Rule.{Kind, Mark}
-use Rattle.tables.specs.Errand.{Haul, steals, takes, Trip}
-use Rattle.tables.specs.Place as P
-use Rattle.tables.specs.Place.{Place}
-use Rattle.tables.specs.Machine.{Queue}
-use Rattle.tables.specs.Access.{Accessed, withCount}
-use Rattle.tables.specs.Answer as A
+use Rattle.tables.specs.declared.answer.Answer.the-variants as Answer
+use Rattle.tables.specs.declared.call.Mark.{Mark}
+use Rattle.tables.specs.declared.state.Kind.{Kind}
+use Rattle.tables.specs.declared.state.Queue.{Queue}
+use Rattle.tables.specs.declared.place.BookedTokens.{BookedTokens}
+use Rattle.tables.specs.declared.place.MovePlace.the-variants as MovePlace
+use Rattle.tables.specs.declared.place.Place.{Place}
+use Rattle.tables.specs.declared.place.Place.the-variants as Place
+use Rattle.tables.specs.declared.place.Transfer.{Transfer}
+use Rattle.tables.specs.declared.place.Transfer.the-variants as Transfer
+use Rattle.tables.specs.Access.{Accessed, withPushes}
 use Rattle.tables.specs.Table.{closing, answerOf, landing, landed, ending}
-use Rattle.tables.specs.Tables.{sourceOf, endingSource}
-use Rattle.tables.specs.Lists.{party, Lists, Plain, update, leave, arrive, does, can, named}
-use Rattle.tables.specs.Causes.{movedBy}
+use Rattle.tables.specs.Tables.{sourceOf, closingSource}
+use Rattle.tables.specs.Answer.{handedOut}
+use Rattle.tables.specs.Lists.{party, Lists, Plain, update, leave, arrive, does, can}
+use Rattle.tables.specs.Effect.{movesOf}
 use Rattle.agreement.proofs.Nums.{Who, call, drain, holderOf, tail, more, moves, book-length}
 use Rattle.agreement.proofs.Whole.{Whole, wordsOf, words-move, RO, RB, RH}
 use Rattle.tables.proofs.Updates.{update-elim, update-same}
 use Rattle.agreement.proofs.Frame.{column, column-over, column-s, after, frame}
-use Rattle.agreement.specs.Shows.{byDrain}
+use Rattle.tables.specs.Shows.{byDrain}
 use Rattle.agreement.proofs.Wrap.{small, diff}
 use Rattle.agreement.proofs.Ring.{tokens-zero}
-use Rattle.agreement.proofs.Facts.{kept, LastIs, Keeps, endWho, BkC, OwnF, BkF, held}
+use Rattle.agreement.proofs.Facts.{kept, LastIs, Keeps, closingWho, BkC, OwnF, BkF, held}
 use Rattle.agreement.proofs.Stable.{own-stable, bkr-stable, drn-stable}
 use Rattle.agreement.proofs.Steps.{handed}
-use Rattle.agreement.proofs.Cells.{Cell, Member, Ok, src, Own, Bkr, Drn, Claim, MInv, words, plainOf, deedAt, Ran}
+use Rattle.agreement.proofs.Cells.{Cell, Member, Ok, src, Own, Bkr, Drn, Claim, MInv, words, plainOf, namedQueue, Ran}
 use Rattle.agreement.proofs.Close.{leaving, landing-is, letting}
 
 -- ---- a steal's landing and a take's, alike
 
-module _ (w : ℕ) (t : Trip) (some : 0 < t .count) (few : t .count < 2 ^ w) where
+module _ (w : ℕ) (t : BookedTokens) (some : 0 < t .count) (few : t .count < 2 ^ w) where
   one-less : minus w (t .count) 1 + 1 ≡ t .count
   one-less = diff w (t .count) 1 (small w few) (small w (omega arith)) some (omega arith)
 
-  land-at : (h : Haul) (x y : ℕ) → deedAt (landed w h t) x y ≡ y
-  land-at steals x y = refl
-  land-at takes x y = refl
+  land-at : (h : Transfer) (x y : ℕ) → namedQueue (landed w h t) x y ≡ y
+  land-at Transfer.Steal x y = refl
+  land-at Transfer.Take x y = refl
 
-  land-moved : (h : Haul) → movedBy (landed w h t) ≡ 0
-  land-moved steals = refl
-  land-moved takes = refl
+  land-moved : (h : Transfer) → movesOf (landed w h t) ≡ 0
+  land-moved Transfer.Steal = refl
+  land-moved Transfer.Take = refl
 
-  land-source : (h : Haul) (p last : ℕ) → endingSource p (ending w h t last) ≡ t .source
-  land-source steals p last = refl
-  land-source takes p last = refl
+  land-source : (h : Transfer) (p last : ℕ) → closingSource p (ending w h t last) ≡ t .source
+  land-source Transfer.Steal p last = refl
+  land-source Transfer.Take p last = refl
 
-  land-who : (h : Haul) (p last : ℕ) → endWho p (ending w h t last) ≡ call p
-  land-who steals p last = refl
-  land-who takes p last = refl
+  land-who : (h : Transfer) (p last : ℕ) → closingWho p (ending w h t last) ≡ call p
+  land-who Transfer.Steal p last = refl
+  land-who Transfer.Take p last = refl
 
-  land-can : (h : Haul) (p y : ℕ) (l : Lists) → l .holder ≡ party p → length (l .booked) ≡ t .count → can p y (landed w h t) l ≡ true
+  land-can : (h : Transfer) (p y : ℕ) (l : Lists) → l .holder ≡ party p → length (l .booked) ≡ t .count → can p y (landed w h t) l ≡ true
   unfolding can
-  land-can steals p y l eh el = rw (eh, eq-eqb p p refl, le-leb (t .count) (length (l .booked)) (omega arith)) refl
-  land-can takes p y l eh el = rw (eh, eq-eqb p p refl, lt-ltb (minus w (t .count) 1) (length (l .booked)) (omega (arith, one-less))) refl
+  land-can Transfer.Steal p y l eh el = rw (eh, eq-eqb p p refl, le-leb (t .count) (length (l .booked)) (omega arith)) refl
+  land-can Transfer.Take p y l eh el = rw (eh, eq-eqb p p refl, lt-ltb (minus w (t .count) 1) (length (l .booked)) (omega (arith, one-less))) refl
 
-  land-hand : (h : Haul) (k : Kind) (l : Lists) (items hand : List ℕ) (last : ℕ) → hand ≡ [] → l .booked ≡ items
+  land-hand : (h : Transfer) (k : Kind) (l : Lists) (items hand : List ℕ) (last : ℕ) → hand ≡ [] → l .booked ≡ items
       → LastIs h (t .count) last items
-      → handed k (landed w h t) l hand ≡ named (answerOf (ending w h t last))
-  land-hand steals k l items hand last eh eb el = eh
-  land-hand takes k l items hand last eh eb el =
+      → handed k (landed w h t) l hand ≡ handedOut (answerOf (ending w h t last))
+  land-hand Transfer.Steal k l items hand last eh eb el = eh
+  land-hand Transfer.Take k l items hand last eh eb el =
       ap₂ (λ (x : List ℕ) (v : ℕ). x ++ (v ∷ [])) eh (ap₂ (λ (b : List ℕ) (m : ℕ). getD b m 0) eb (let z = one-less in omega arith)
       ∙ sym el)
 
-  land-queue : (h : Haul) (ks : ℕ → Kind) (p y : ℕ) (a : Plain) (z : ℕ)
+  land-queue : (h : Transfer) (ks : ℕ → Kind) (p y : ℕ) (a : Plain) (z : ℕ)
       → does ks p y (landed w h t) a .queue z
       ≡ update (update (a .queue) y (leave (t .count) (a .queue y))) p
       (arrive (take (t .count - kept h) (a .queue y .booked)) (update (a .queue) y (leave (t .count) (a .queue y)) p)) z
   unfolding does
-  land-queue steals ks p y a z =
+  land-queue Transfer.Steal ks p y a z =
       let e : t .count ≡ t .count - 0 = omega arith in
       ap (λ (m : ℕ). update (update (a .queue) y (leave (t .count) (a .queue y))) p
       (arrive (take m (a .queue y .booked)) (update (a .queue) y (leave (t .count) (a .queue y)) p)) z) e
-  land-queue takes ks p y a z =
+  land-queue Transfer.Take ks p y a z =
       let e : minus w (t .count) 1 ≡ t .count - 1 = (let f = one-less in omega arith) in
       ap₂ (λ (m n : ℕ). update (update (a .queue) y (leave n (a .queue y))) p
       (arrive (take m (a .queue y .booked)) (update (a .queue) y (leave n (a .queue y)) p)) z) e one-less
 
-module _ (w n : ℕ) {cells : ℕ → Cell} {members : ℕ → Member} (inv : MInv w n cells members) (p : ℕ) (t : Trip) (last : ℕ) (mark : Mark)
-    (e₁ : members p .pl ≡ P.move (P.land t last)) (e₂ : members p .bl ≡ P.move (P.land t last)) where
-  o-facts : OwnF w (members p .fill) (members p .items) (members p .hand) (P.move (P.land t last)) (cells p .kind) (cells p .cap)
+module _ (w n : ℕ) {cells : ℕ → Cell} {members : ℕ → Member} (inv : MInv w n cells members) (p : ℕ) (t : BookedTokens) (last : ℕ) (mark : Mark)
+    (e₁ : members p .pl ≡ Place.Move (MovePlace.Land t last)) (e₂ : members p .bl ≡ Place.Move (MovePlace.Land t last)) where
+  o-facts : OwnF w (members p .fill) (members p .items) (members p .hand) (Place.Move (MovePlace.Land t last)) (cells p .kind) (cells p .cap)
       (cells p .s) (cells p .g) (cells p .l)
   o-facts = subst (λ (z : Place). OwnF w (members p .fill) (members p .items) (members p .hand) z (cells p .kind) (cells p .cap)
       (cells p .s) (cells p .g) (cells p .l)) e₁ (inv .own p)
@@ -100,7 +106,7 @@ module _ (w n : ℕ) {cells : ℕ → Cell} {members : ℕ → Member} (inv : MI
   few = o-facts .at .1 .few
 
   place : Place
-  place = P.close (ending w (t .haul) t last) (closing (cells (t .source) .kind) (plus w (t .from) (t .count)))
+  place = Place.Close (ending w (t .transfer) t last) (closing (cells (t .source) .kind) (plus w (t .from) (t .count)))
 
   left : Whole w (cells (t .source) .kind) (cells (t .source) .cap) (cells (t .source) .s) (moves (t .count) (cells (t .source) .g))
       (leave (t .count) (cells (t .source) .l))
@@ -137,17 +143,17 @@ module _ (w n : ℕ) {cells : ℕ → Cell} {members : ℕ → Member} (inv : MI
 
   source-s : sourceOf p place ≡ t .source
   unfolding place
-  source-s = land-source w t some few (t .haul) p last
+  source-s = land-source w t some few (t .transfer) p last
 
   bkr₁ : BkF w p (members p .fm) (members p .items) place (c₁ .kind) (c₁ .g) (c₁ .l)
   unfolding place c₁
   bkr₁ = subst (λ (z : Who). BkC w z (closing (cells (t .source) .kind) (plus w (t .from) (t .count))) (cells (t .source) .kind)
-      (moves (t .count) (cells (t .source) .g))) (sym (land-who w t some few (t .haul) p last)) (left .1)
+      (moves (t .count) (cells (t .source) .g))) (sym (land-who w t some few (t .transfer) p last)) (left .1)
 
   held₁ : (z : ℕ) → held w p (members p .bl) (members p .drain) z ≡ true → held w p place (members p .drain) z ≡ true
   unfolding place
   held₁ z h =
-      subst (λ (q : ℕ). orb (eqb q z) (byDrain w p (members p .drain) z .holds) ≡ true) (sym (land-source w t some few (t .haul) p last))
+      subst (λ (q : ℕ). orb (eqb q z) (byDrain w p (members p .drain) z .holds) ≡ true) (sym (land-source w t some few (t .transfer) p last))
       (subst (λ (q : Place). held w p q (members p .drain) z ≡ true) e₂ h)
 
   -- first the source
@@ -186,7 +192,7 @@ module _ (w n : ℕ) {cells : ℕ → Cell} {members : ℕ → Member} (inv : MI
   unfolding members₁
   m₁-is = update-same members p m₁
 
-  o₁ : OwnF w (members p .fill) (members p .items) (members p .hand) (P.move (P.land t last)) (cells₁ p .kind) (cells₁ p .cap)
+  o₁ : OwnF w (members p .fill) (members p .items) (members p .hand) (Place.Move (MovePlace.Land t last)) (cells₁ p .kind) (cells₁ p .cap)
       (cells₁ p .s) (cells₁ p .g) (cells₁ p .l)
   unfolding cells₁ members₁ m₁
   o₁ =
@@ -194,27 +200,27 @@ module _ (w n : ℕ) {cells : ℕ → Cell} {members : ℕ → Member} (inv : MI
       (cells₁ p .g) (cells₁ p .l)) e₁
       (subst (λ (z : Member). Own w n z (cells₁ p)) m₁-is (inv₁ .own p))
 
-  in₂ : Whole w (cells₁ p .kind) (cells₁ p .cap) (cells₁ p .s) (more (t .count - kept (t .haul)) (cells₁ p .g))
-      (arrive (take (t .count - kept (t .haul)) (members p .items)) (cells₁ p .l))
-      × RB (cells₁ p .g) (more (t .count - kept (t .haul)) (cells₁ p .g))
-      × RH (cells₁ p .g) (cells₁ p .l) (more (t .count - kept (t .haul)) (cells₁ p .g))
-      (arrive (take (t .count - kept (t .haul)) (members p .items)) (cells₁ p .l))
-      × (withCount (words w (cells₁ p)) (plus w (t .word) (t .count - kept (t .haul))) ≡ wordsOf w (cells₁ p .kind) (cells₁ p .cap)
-      (more (t .count - kept (t .haul)) (cells₁ p .g)))
+  in₂ : Whole w (cells₁ p .kind) (cells₁ p .cap) (cells₁ p .s) (more (t .count - kept (t .transfer)) (cells₁ p .g))
+      (arrive (take (t .count - kept (t .transfer)) (members p .items)) (cells₁ p .l))
+      × RB (cells₁ p .g) (more (t .count - kept (t .transfer)) (cells₁ p .g))
+      × RH (cells₁ p .g) (cells₁ p .l) (more (t .count - kept (t .transfer)) (cells₁ p .g))
+      (arrive (take (t .count - kept (t .transfer)) (members p .items)) (cells₁ p .l))
+      × (withPushes (words w (cells₁ p)) (plus w (t .word) (t .count - kept (t .transfer))) ≡ wordsOf w (cells₁ p .kind) (cells₁ p .cap)
+      (more (t .count - kept (t .transfer)) (cells₁ p .g)))
   unfolding cells₁
-  in₂ = letting w (cells₁ p .kind) (inv₁ .ok p) (members p .items) t (t .count - kept (t .haul)) refl (o₁ .at .1)
+  in₂ = letting w (cells₁ p .kind) (inv₁ .ok p) (members p .items) t (t .count - kept (t .transfer)) refl (o₁ .at .1)
 
   c₂ : Cell
   c₂ = record {
     kind = cells₁ p .kind;
     cap = cells₁ p .cap;
     s = cells₁ p .s;
-    g = more (t .count - kept (t .haul)) (cells₁ p .g);
-    l = arrive (take (t .count - kept (t .haul)) (members p .items)) (cells₁ p .l);
+    g = more (t .count - kept (t .transfer)) (cells₁ p .g);
+    l = arrive (take (t .count - kept (t .transfer)) (members p .items)) (cells₁ p .l);
   }
 
   hand₂ : List ℕ
-  hand₂ = handed (cells (t .source) .kind) (landed w (t .haul) t) (cells (t .source) .l) (members p .hand)
+  hand₂ = handed (cells (t .source) .kind) (landed w (t .transfer) t) (cells (t .source) .l) (members p .hand)
 
   m₂ : Member
   m₂ = record {
@@ -231,8 +237,8 @@ module _ (w n : ℕ) {cells : ℕ → Cell} {members : ℕ → Member} (inv : MI
   unfolding c₂ m₂ hand₂ place more arrive
   own₂ = record {
     wait-is = o₁ .wait-is ∙ tokens-zero (cells₁ p .cap) (cells₁ p .s) (tail (cells₁ p .g))
-        ∙ sym (tokens-zero (cells₁ p .cap) (cells₁ p .s) (tail (more (t .count - kept (t .haul)) (cells₁ p .g))));
-    hand-is = land-hand w t some few (t .haul) (cells (t .source) .kind) (cells (t .source) .l) (members p .items) (members p .hand) last
+        ∙ sym (tokens-zero (cells₁ p .cap) (cells₁ p .s) (tail (more (t .count - kept (t .transfer)) (cells₁ p .g))));
+    hand-is = land-hand w t some few (t .transfer) (cells (t .source) .kind) (cells (t .source) .l) (members p .items) (members p .hand) last
         (o-facts .hand-is) (b-facts .book-is) (o-facts .at .0);
     at = tt;
   }
@@ -259,17 +265,17 @@ module _ (w n : ℕ) {cells : ℕ → Cell} {members : ℕ → Member} (inv : MI
       claims z h = subst (λ (q : Member). Claim w n p z q (cells₁ z)) m₁-is (inv₁ .claim p z) h
 
   -- the landing's step
-  pub land-go : (o : Accessed) → o .queue ≡ withCount (words w (cells p)) (plus w (t .word) (landing w (t .haul) t)) → o .slots ≡ cells p .s
-      → Ran w n cells members p (P.move (P.land t last)) mark p o
+  pub land-go : (o : Accessed) → o .queue ≡ withPushes (words w (cells p)) (plus w (t .word) (landing w (t .transfer) t)) → o .slots ≡ cells p .s
+      → Ran w n cells members p (Place.Move (MovePlace.Land t last)) mark p o
       (record {
-        place = P.close (ending w (t .haul) t last) (closing (cells (t .source) .kind) (plus w (t .from) (t .count)));
+        place = Place.Close (ending w (t .transfer) t last) (closing (cells (t .source) .kind) (plus w (t .from) (t .count)));
         drain = members p .drain;
-        answer = A.pending;
-        deed = landed w (t .haul) t;
+        answer = Answer.Pending;
+        change = landed w (t .transfer) t;
       })
   unfolding cells₁ members₁ c₁ m₁ c₂ m₂ hand₂ place moves more
   land-go o eq es =
-      let q : deedAt (landed w (t .haul) t) p (t .source) ≡ t .source = land-at w t some few (t .haul) p (t .source) in
+      let q : namedQueue (landed w (t .transfer) t) p (t .source) ≡ t .source = land-at w t some few (t .transfer) p (t .source) in
       let ew : (j : ℕ) → words w (cells₁ j) ≡ words w (cells j) =
       column-s (λ (c : Cell). words w c) cells (t .source) c₁ (sym
       (words-move w (cells (t .source) .kind) (cells (t .source) .cap) (t .count) (cells (t .source) .g)
@@ -287,8 +293,8 @@ module _ (w n : ℕ) {cells : ℕ → Cell} {members : ℕ → Member} (inv : MI
         inv = inv₂;
         words-are =
             column (λ (c : Cell). words w c) cells₁ (λ (z : ℕ). words w (cells z)) ew p c₂ (o .queue)
-            (sym (in₂ .3) ∙ ap₂ (λ (u : Queue) (v : ℕ). withCount u (plus w (t .word) v)) (ew p)
-            (sym (landing-is w (cells p .kind) (inv .ok p) (t .haul) t some few)) ∙ sym eq);
+            (sym (in₂ .3) ∙ ap₂ (λ (u : Queue) (v : ℕ). withPushes u (plus w (t .word) v)) (ew p)
+            (sym (landing-is w (cells p .kind) (inv .ok p) (t .transfer) t some few)) ∙ sym eq);
         slots-are =
             column (λ (c : Cell). c .s) cells₁ (λ (z : ℕ). cells z .s) (column-s (λ (c : Cell). c .s) cells (t .source) c₁ refl) p c₂
             (o .slots)
@@ -300,29 +306,29 @@ module _ (w n : ℕ) {cells : ℕ → Cell} {members : ℕ → Member} (inv : MI
         fill-are = column-over (λ (u : Member). u .fill) members p m₁ m₂ (members p .fill) refl;
         hand-are =
             column-over (λ (u : Member). u .hand) members p m₁ m₂
-            (handed (cells (deedAt (landed w (t .haul) t) p (t .source)) .kind) (landed w (t .haul) t)
-            (cells (deedAt (landed w (t .haul) t) p (t .source)) .l) (members p .hand))
-            (ap (λ (z : ℕ). handed (cells z .kind) (landed w (t .haul) t) (cells z .l) (members p .hand)) (sym q));
+            (handed (cells (namedQueue (landed w (t .transfer) t) p (t .source)) .kind) (landed w (t .transfer) t)
+            (cells (namedQueue (landed w (t .transfer) t) p (t .source)) .l) (members p .hand))
+            (ap (λ (z : ℕ). handed (cells z .kind) (landed w (t .transfer) t) (cells z .l) (members p .hand)) (sym q));
         fair = refl;
         can-s =
-            subst (λ (z : ℕ). can p z (landed w (t .haul) t) (cells z .l) ≡ true) (sym q)
-            (land-can w t some few (t .haul) p (t .source) (cells (t .source) .l) (inv .ok (t .source) .joins .holder-is
+            subst (λ (z : ℕ). can p z (landed w (t .transfer) t) (cells z .l) ≡ true) (sym q)
+            (land-can w t some few (t .transfer) p (t .source) (cells (t .source) .l) (inv .ok (t .source) .joins .holder-is
             ∙ ap holderOf (b-facts .who-is))
             (book-length (cells (t .source) .cap) (inv .ok (t .source) .cap-pos) (inv .ok (t .source) .joins) ∙ b-facts .left-is));
         ls-are =
             λ ks out gone ek z.
-            subst (λ (x : ℕ). does ks p x (landed w (t .haul) t) (plainOf cells members out gone) .queue z ≡ update cells₁ p c₂ z .l)
+            subst (λ (x : ℕ). does ks p x (landed w (t .transfer) t) (plainOf cells members out gone) .queue z ≡ update cells₁ p c₂ z .l)
             (sym q)
-            (land-queue w t some few (t .haul) ks p (t .source) (plainOf cells members out gone) z
+            (land-queue w t some few (t .transfer) ks p (t .source) (plainOf cells members out gone) z
             ∙ sym (column (λ (c : Cell). c .l) cells₁ (update (λ (j : ℕ). cells j .l) (t .source)
             (leave (t .count) (cells (t .source) .l))) ls p c₂
-            (arrive (take (t .count - kept (t .haul)) (cells (t .source) .l .booked))
+            (arrive (take (t .count - kept (t .transfer)) (cells (t .source) .l .booked))
             (update (λ (j : ℕ). cells j .l) (t .source) (leave (t .count) (cells (t .source) .l)) p))
-            (ap₂ (λ (u : List ℕ) (v : Lists). arrive (take (t .count - kept (t .haul)) u) v) (sym (b-facts .book-is)) (ls p)) z));
+            (ap₂ (λ (u : List ℕ) (v : Lists). arrive (take (t .count - kept (t .transfer)) u) v) (sym (b-facts .book-is)) (ls p)) z));
         moved-are =
             column (λ (c : Cell). c .g .moved) cells₁ (λ (z : ℕ). cells z .g .moved) em p c₂
-            (cells p .g .moved + movedBy (landed w (t .haul) t))
-            (em p ∙ omega (arith, land-moved w t some few (t .haul)));
+            (cells p .g .moved + movesOf (landed w (t .transfer) t))
+            (em p ∙ omega (arith, land-moved w t some few (t .transfer)));
         start-s = λ j. column-s (λ (c : Cell). c .g .start) cells₁ p c₂ refl j
             ∙ column-s (λ (c : Cell). c .g .start) cells (t .source) c₁ refl j;
         still = λ j _. omega (arith, em₂ j, ep₂ j);

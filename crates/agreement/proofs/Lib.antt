@@ -35,6 +35,7 @@ pub mod Kept
 pub mod Alone
 pub mod Merged
 pub mod Demand3
+pub mod Applying
 pub mod Tests
 pub mod Instances
 pub mod Schedules

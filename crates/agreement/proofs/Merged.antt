@@ -1,4 +1,4 @@
--- Claim 5, the record: dropped ones in a row as one replay to the same lists as the single ones.
+-- Claim 5, the record: dropped ones in a row as one replay to the same lists as the single ones, since to drop j and then k is to drop j + k.
 use Prim.Native.Nat.{ℕ, zero, suc, _+_, _-_, _≤_, _<_}
 use mathlib.Core.Path.{_≡_, refl, sym, ap, ap₂, _∙_}
 use mathlib.Core.Bool.{Bool, true, false}
@@ -9,21 +9,25 @@ use lib.Dec.{leb, ltb}
 use lib.ListN.{length, take, drop, length-drop}
 use lib.Seq.{drop-drop, take-add}
 use Rattle.words.specs.Word.{pick}
-use Rattle.tables.specs.Rule.{Kind, plain}
+use Rattle.tables.specs.declared.answer.Change.{Change}
+use Rattle.tables.specs.declared.answer.Change.the-variants as Change
+use Rattle.tables.specs.declared.answer.Effect.{Effect}
+use Rattle.tables.specs.declared.call.Mark.the-variants as Mark
+use Rattle.tables.specs.declared.state.Kind.{Kind}
 use Rattle.tables.specs.Answer.{isPending}
-use Rattle.tables.specs.Effect as E
-use Rattle.tables.specs.Effect.{Deed, drops, isNothing, Effect}
+use Rattle.tables.specs.Effect.{dropsOf, isNone}
 use Rattle.tables.specs.Step.{andb, Outcome, alone, joined, appended, noted}
 use Rattle.tables.specs.Lists.{Lists, Plain, heldBy, update, leave, does, can, Entry, did, said, Replayed, impossible, lists, replayEntry, replayFrom, replay}
 use Rattle.tables.proofs.Bools.{and-left, and-right, pick-if}
 use Rattle.tables.proofs.Updates.{update-same, update-twice}
 use Rattle.tables.proofs.Refused.{step-if}
+use Rattle.tables.proofs.Rows.{dropped-is}
 use Rattle.tables.proofs.Effects.{dropped-own}
 use Rattle.agreement.specs.Statement.{Run, kindsOf, didEntry, saidEntry, stepped, repeated, singles, gathered, putOn, AloneAgrees}
 use Rattle.agreement.proofs.Alone.{singlesOn, AsSingles, alone-is-singles}
 
 abbrev pub drop-by : (party queue count : ℕ) → Entry
-drop-by p q n = did (record { party = p; queue = q; deed = E.dropped n })
+drop-by p q n = did (record { party = p; queue = q; change = Change.Dropped n })
 
 leb-sum : (j k n : ℕ) → leb (j + k) n ≡ andb (leb j n) (leb k (n - j))
 leb-sum j k n = go (leb j n) (leb k (n - j)) refl refl
@@ -59,7 +63,7 @@ module _ (ks : ℕ → Kind) (p q j k : ℕ) (a : Plain) where
         kept = a .queue q .kept;
       }) (drop-drop k j (a .queue q .booked))
 
-  drops-do : does ks p q (E.dropped k) (does ks p q (E.dropped j) a) ≡ does ks p q (E.dropped (j + k)) a
+  drops-do : does ks p q (Change.Dropped k) (does ks p q (Change.Dropped j) a) ≡ does ks p q (Change.Dropped (j + k)) a
   unfolding does leave
   drops-do =
       ap (λ (l : Lists). record {
@@ -73,7 +77,7 @@ module _ (ks : ℕ → Kind) (p q j k : ℕ) (a : Plain) where
       (append-assoc (a .gone) (take j (a .queue q .booked)) (take k (drop j (a .queue q .booked)))
       ∙ ap (λ (l : List ℕ). a .gone ++ l) (sym (take-add j k (a .queue q .booked))))
 
-  drops-can : can p q (E.dropped k) (does ks p q (E.dropped j) a .queue q)
+  drops-can : can p q (Change.Dropped k) (does ks p q (Change.Dropped j) a .queue q)
       ≡ andb (heldBy p (a .queue q .holder)) (leb k (length (a .queue q .booked) - j))
   unfolding can does leave
   drops-can =
@@ -85,36 +89,24 @@ module _ (ks : ℕ → Kind) (p q j k : ℕ) (a : Plain) where
   drops-merge =
       let h = heldBy p (a .queue q .holder) in
       let n = length (a .queue q .booked) in
-      from-pick ks (drop-by p q k) (andb h (leb j n)) (does ks p q (E.dropped j) a)
+      from-pick ks (drop-by p q k) (andb h (leb j n)) (does ks p q (Change.Dropped j) a)
       ∙ ap₂ (λ (t : Bool) (b : Plain). pick (andb h (leb j n)) (pick t (lists b) impossible) impossible) drops-can drops-do
-      ∙ in-turn h (leb j n) (leb k (n - j)) (lists (does ks p q (E.dropped (j + k)) a)) impossible
-      ∙ ap (λ (t : Bool). pick (andb h t) (lists (does ks p q (E.dropped (j + k)) a)) impossible) (sym (leb-sum j k n))
+      ∙ in-turn h (leb j n) (leb k (n - j)) (lists (does ks p q (Change.Dropped (j + k)) a)) impossible
+      ∙ ap (λ (t : Bool). pick (andb h t) (lists (does ks p q (Change.Dropped (j + k)) a)) impossible) (sym (leb-sum j k n))
 
 -- ---- a whole list of effects, put on a record
 
 -- what is dropped, party p drops from its own queue
 abbrev pub Own : ℕ → Effect → Type 0
-Own p e = 0 < drops (e .deed) → (e .party ≡ p) × (e .queue ≡ p)
+Own p e = 0 < dropsOf (e .change) → (e .party ≡ p) × (e .queue ≡ p)
 
 unfoldable pub AllOwn : ℕ → List Effect → Type 0
 AllOwn p [] = Unit {0}
 AllOwn p (e ∷ es) = Own p e × AllOwn p es
 
-dropped-is : (d : Deed) → 0 < drops d → d ≡ E.dropped (drops d)
-dropped-is E.nothing h = absurd (omega arith)
-dropped-is (E.offered t) h = absurd (omega arith)
-dropped-is E.accepted h = absurd (omega arith)
-dropped-is E.popped h = absurd (omega arith)
-dropped-is (E.booked k) h = absurd (omega arith)
-dropped-is (E.landed k) h = absurd (omega arith)
-dropped-is (E.landedLast k) h = absurd (omega arith)
-dropped-is E.drained h = absurd (omega arith)
-dropped-is (E.dropped k) h = refl
-dropped-is E.closed h = absurd (omega arith)
-
 -- as a drop by p from its own queue
-as-drop : (p : ℕ) (e : Effect) → Own p e → 0 < drops (e .deed) → did e ≡ drop-by p p (drops (e .deed))
-as-drop p e o h = λ i. did (record { party = o h .0 i; queue = o h .1 i; deed = dropped-is (e .deed) h i })
+as-drop : (p : ℕ) (e : Effect) → Own p e → 0 < dropsOf (e .change) → did e ≡ drop-by p p (dropsOf (e .change))
+as-drop p e o h = λ i. did (record { party = o h .0 i; queue = o h .1 i; change = dropped-is (e .change) h i })
 
 module _ (ks : ℕ → Kind) (p : ℕ) where
   merge-any : (j k : ℕ) (r : Replayed)
@@ -126,12 +118,12 @@ module _ (ks : ℕ → Kind) (p : ℕ) where
   unfolding putOn replay
   joined-put l x e ox oe =
       pick-if (λ (y : List Effect). replay ks (putOn l y) ≡ replay ks (did e ∷ did x ∷ l))
-      (andb (ltb 0 (drops (x .deed))) (ltb 0 (drops (e .deed))))
+      (andb (ltb 0 (dropsOf (x .change))) (ltb 0 (dropsOf (e .change))))
       (λ h.
-      let hx : 0 < drops (x .deed) = ltb-true _ _ (and-left (ltb 0 (drops (x .deed))) (ltb 0 (drops (e .deed))) h) in
-      let he : 0 < drops (e .deed) = ltb-true _ _ (and-right (ltb 0 (drops (x .deed))) (ltb 0 (drops (e .deed))) h) in
-      ap₂ (λ (a b : ℕ). replayFrom ks (drop-by a b (drops (x .deed) + drops (e .deed))) (replay ks l)) (oe he .0) (oe he .1)
-      ∙ sym (merge-any (drops (x .deed)) (drops (e .deed)) (replay ks l))
+      let hx : 0 < dropsOf (x .change) = ltb-true _ _ (and-left (ltb 0 (dropsOf (x .change))) (ltb 0 (dropsOf (e .change))) h) in
+      let he : 0 < dropsOf (e .change) = ltb-true _ _ (and-right (ltb 0 (dropsOf (x .change))) (ltb 0 (dropsOf (e .change))) h) in
+      ap₂ (λ (a b : ℕ). replayFrom ks (drop-by a b (dropsOf (x .change) + dropsOf (e .change))) (replay ks l)) (oe he .0) (oe he .1)
+      ∙ sym (merge-any (dropsOf (x .change)) (dropsOf (e .change)) (replay ks l))
       ∙ sym (ap₂ (λ (a b : Entry). replayFrom ks a (replayFrom ks b (replay ks l))) (as-drop p e oe he) (as-drop p x ox hx)))
       (λ h. refl)
 
@@ -144,14 +136,14 @@ module _ (ks : ℕ → Kind) (p : ℕ) where
 
   noted-put : (l : List Entry) (es : List Effect) (e : Effect) → AllOwn p es → Own p e
       → replay ks (putOn l (noted es e)) ≡ replay ks (didEntry e (putOn l es))
-  noted-put l es e all o = at (isNothing (e .deed))
+  noted-put l es e all o = at (isNone (e .change))
     where
       at : (t : Bool) → replay ks (putOn l (pick t es (appended es e))) ≡ replay ks (pick t (putOn l es) (did e ∷ putOn l es))
       at true = refl
       at false = appended-put l es e all o
 
   -- an entry on top, or none: what is below matters by its lists alone
-  on-top : (t : Bool) (x : Entry) (l k : List Entry) → replay ks l ≡ replay ks k
+  pub on-top : (t : Bool) (x : Entry) (l k : List Entry) → replay ks l ≡ replay ks k
       → replay ks (pick t l (x ∷ l)) ≡ replay ks (pick t k (x ∷ k))
   unfolding replay
   on-top true x l k e = e
@@ -162,18 +154,18 @@ module _ (ks : ℕ → Kind) (p : ℕ) where
   unfolding singlesOn
   singles-same [] l k e = e
   singles-same (o ∷ os) l k e =
-      singles-same os (didEntry (o .effect) l) (didEntry (o .effect) k) (on-top (isNothing (o .effect .deed)) (did (o .effect)) l k e)
+      singles-same os (didEntry (o .effect) l) (didEntry (o .effect) k) (on-top (isNone (o .effect .change)) (did (o .effect)) l k e)
 
 own-appended : (p : ℕ) (es : List Effect) (e : Effect) → AllOwn p es → Own p e → AllOwn p (appended es e)
 unfolding appended AllOwn
 own-appended p [] e all o = (o, tt)
 own-appended p (x ∷ []) e all o =
-    pick-if (AllOwn p) (andb (ltb 0 (drops (x .deed))) (ltb 0 (drops (e .deed))))
-    (λ h. ((λ i. o (ltb-true _ _ (and-right (ltb 0 (drops (x .deed))) (ltb 0 (drops (e .deed))) h))), tt)) (λ h. (all .0, (o, tt)))
+    pick-if (AllOwn p) (andb (ltb 0 (dropsOf (x .change))) (ltb 0 (dropsOf (e .change))))
+    (λ h. ((λ i. o (ltb-true _ _ (and-right (ltb 0 (dropsOf (x .change))) (ltb 0 (dropsOf (e .change))) h))), tt)) (λ h. (all .0, (o, tt)))
 own-appended p (x ∷ y ∷ es) e all o = (all .0, own-appended p (y ∷ es) e (all .1) o)
 
 own-noted : (p : ℕ) (es : List Effect) (e : Effect) → AllOwn p es → Own p e → AllOwn p (noted es e)
-own-noted p es e all o = pick-if (AllOwn p) (isNothing (e .deed)) (λ h. all) (λ h. own-appended p es e all o)
+own-noted p es e all o = pick-if (AllOwn p) (isNone (e .change)) (λ h. all) (λ h. own-appended p es e all o)
 
 unfoldable pub OwnSteps : ℕ → List Outcome → Type 0
 OwnSteps p [] = Unit {0}
@@ -183,9 +175,9 @@ pub singles-own : (w most n : ℕ) (r : Run) (p : ℕ) → OwnSteps p (singles w
 unfolding singles OwnSteps
 singles-own w most zero r p = tt
 singles-own w most (suc n) r p = (
-  step-if w most (r .machine) p plain (r .items) (λ (o : Outcome). Own p (o .effect)) (λ e. dropped-own w (r .machine) (r .items) p plain)
+  step-if w most (r .machine) p Mark.Plain (r .items) (λ (o : Outcome). Own p (o .effect)) (λ e. dropped-own w (r .machine) (r .items) p Mark.Plain)
       (λ e h. absurd (omega arith)),
-  singles-own w most n (stepped w most r p plain) p,
+  singles-own w most n (stepped w most r p Mark.Plain) p,
 )
 
 pub gathered-put : (ks : ℕ → Kind) (p : ℕ) (os : List Outcome) (l : List Entry) (es : List Effect) → AllOwn p es → OwnSteps p os
@@ -198,7 +190,7 @@ gathered-put ks p (o ∷ os) l es all own =
     (noted-put ks p l es (o .effect) all (own .0))
 
 -- the record of running alone, and that of the single steps
-alone-record : (w most : ℕ) (r : Run) (p n : ℕ) (ks : ℕ → Kind) → let b = alone w most (r .machine) (r .items) p n in
+pub alone-record : (w most : ℕ) (r : Run) (p n : ℕ) (ks : ℕ → Kind) → let b = alone w most (r .machine) (r .items) p n in
     replay ks (saidEntry p (b .answer) (putOn (r .record′) (b .effects))) ≡ replay ks (repeated w most (b .steps) r p .record′)
 unfolding putOn AllOwn
 alone-record w most r p n ks =

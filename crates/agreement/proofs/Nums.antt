@@ -7,9 +7,9 @@ use Prim.Native.Nat.{ℕ, _+_, _-_, _%_, _≤_, _<_}
 use native.Mathlib.Omega.{arith}
 use lib.ListN.{length, drop, getD, set, length-set}
 use lib.Seq.{take-at, drop-at, getD-at}
-use Rattle.tables.specs.Rule.{lifo, fifo}
-use Rattle.tables.specs.Lists.{Holder, nobody, party, isOpen, Lists, tokens, offer, accept, pop, popFrom, book, leave, arrive, shut}
-use Rattle.agreement.proofs.Ring.{cell, tokens-zero, length-tokens, tokens-append, tokens-snoc, tokens-other, getD-tokens}
+use Rattle.tables.specs.declared.state.Kind.the-variants as Kind
+use Rattle.tables.specs.Lists.{Holder, nobody, party, isOpen, Lists, offer, accept, pop, popFrom, book, leave, arrive, shut}
+use Rattle.agreement.proofs.Ring.{tokens, cell, tokens-zero, length-tokens, tokens-append, tokens-snoc, tokens-other, getD-tokens}
 
 -- Who has the open booking: a party's call, or its drain.
 pub data Who : Type 0 where
@@ -25,7 +25,7 @@ holderOf (drain p) = party p
 -- The true numbers. From the completed head (FIFO stealer head) on: `taken` booked tokens moved out, `left` still booked, `gone`
 -- popped past the booking (FIFO), `rest` resting. `moved` counts from the opening position `start`.
 pub record Nums : Type 0 where
-  pub done : ℕ
+  pub completed : ℕ
   pub taken : ℕ
   pub left : ℕ
   pub gone : ℕ
@@ -37,7 +37,7 @@ pub record Nums : Type 0 where
   pub who : Who
 
 abbrev pub head : Nums → ℕ
-head g = g .done + g .taken + g .left + g .gone
+head g = g .completed + g .taken + g .left + g .gone
 
 abbrev pub tail : Nums → ℕ
 tail g = head g + g .rest
@@ -46,14 +46,14 @@ pub record Joins (cap : ℕ) (s : List ℕ) (g : Nums) (l : Lists) : Type 0 wher
   pub sized : length s ≡ cap
   pub fits : g .taken + g .left + g .gone + g .rest ≤ cap
   pub rest-is : l .resting ≡ tokens cap s (head g) (g .rest)
-  pub book-is : l .booked ≡ tokens cap s (g .done + g .taken) (g .left)
+  pub book-is : l .booked ≡ tokens cap s (g .completed + g .taken) (g .left)
   pub kept-is : l .kept ≡ g .taken + g .left + g .gone
   pub holder-is : l .holder ≡ holderOf (g .who)
 
 -- The transitions on the numbers.
 unfoldable pub more : ℕ → Nums → Nums
 more n g = record {
-  done = g .done;
+  completed = g .completed;
   taken = g .taken;
   left = g .left;
   gone = g .gone;
@@ -67,7 +67,7 @@ more n g = record {
 
 unfoldable pub popLast : Nums → Nums
 popLast g = record {
-  done = g .done;
+  completed = g .completed;
   taken = g .taken;
   left = g .left;
   gone = g .gone;
@@ -82,7 +82,7 @@ popLast g = record {
 -- FIFO: past an open booking the slot stays away until it closes
 unfoldable pub popPast : Nums → Nums
 popPast g = record {
-  done = g .done;
+  completed = g .completed;
   taken = g .taken;
   left = g .left;
   gone = g .gone + 1;
@@ -97,7 +97,7 @@ popPast g = record {
 -- FIFO: with no booking open both heads move
 unfoldable pub popFirst : Nums → Nums
 popFirst g = record {
-  done = g .done + 1;
+  completed = g .completed + 1;
   taken = 0;
   left = 0;
   gone = 0;
@@ -111,7 +111,7 @@ popFirst g = record {
 
 unfoldable pub books : Who → ℕ → Nums → Nums
 books r n g = record {
-  done = head g;
+  completed = head g;
   taken = 0;
   left = n;
   gone = 0;
@@ -125,7 +125,7 @@ books r n g = record {
 
 unfoldable pub moves : ℕ → Nums → Nums
 moves n g = record {
-  done = g .done;
+  completed = g .completed;
   taken = g .taken + n;
   left = g .left - n;
   gone = g .gone;
@@ -139,7 +139,7 @@ moves n g = record {
 
 unfoldable pub closes : Nums → Nums
 closes g = record {
-  done = head g;
+  completed = head g;
   taken = 0;
   left = 0;
   gone = 0;
@@ -158,12 +158,12 @@ open-or (drain p) n = refl
 
 module _ (cap : ℕ) (pos : 0 < cap) {s : List ℕ} {g : Nums} {l : Lists} (c : Joins cap s g l) where
   -- a write past the tail, within the capacity
-  pub joins-write : (x v : ℕ) → tail g ≤ x → x < g .done + cap → Joins cap (set s (x % cap) v) g l
+  pub joins-write : (x v : ℕ) → tail g ≤ x → x < g .completed + cap → Joins cap (set s (x % cap) v) g l
   joins-write x v le lt = record {
     sized = length-set s (x % cap) v ∙ c .sized;
     fits = c .fits;
     rest-is = c .rest-is ∙ sym (tokens-other cap pos s x v (head g) (g .rest) le (omega arith));
-    book-is = c .book-is ∙ sym (tokens-other cap pos s x v (g .done + g .taken) (g .left) (omega arith) (omega arith));
+    book-is = c .book-is ∙ sym (tokens-other cap pos s x v (g .completed + g .taken) (g .left) (omega arith) (omega arith));
     kept-is = c .kept-is;
     holder-is = c .holder-is;
   }
@@ -180,7 +180,7 @@ module _ (cap : ℕ) (pos : 0 < cap) {s : List ℕ} {g : Nums} {l : Lists} (c : 
   }
 
   -- tokens that stand past the tail are let in
-  pub joins-more : (n : ℕ) (ts : List ℕ) → ts ≡ tokens cap s (tail g) n → tail g + n ≤ g .done + cap → Joins cap s (more n g) (arrive ts l)
+  pub joins-more : (n : ℕ) (ts : List ℕ) → ts ≡ tokens cap s (tail g) n → tail g + n ≤ g .completed + cap → Joins cap s (more n g) (arrive ts l)
   unfolding more arrive
   joins-more n ts e le = record {
     sized = c .sized;
@@ -191,7 +191,7 @@ module _ (cap : ℕ) (pos : 0 < cap) {s : List ℕ} {g : Nums} {l : Lists} (c : 
     holder-is = c .holder-is;
   }
 
-  pub joins-accept : (n : ℕ) → l .waiting ≡ tokens cap s (tail g) n → tail g + n ≤ g .done + cap → Joins cap s (more n g) (accept l)
+  pub joins-accept : (n : ℕ) → l .waiting ≡ tokens cap s (tail g) n → tail g + n ≤ g .completed + cap → Joins cap s (more n g) (accept l)
   unfolding more accept
   joins-accept n e le = record {
     sized = c .sized;
@@ -210,15 +210,15 @@ module _ (cap : ℕ) (pos : 0 < cap) {s : List ℕ} {g : Nums} {l : Lists} (c : 
   rest-length = ap length (c .rest-is) ∙ length-tokens cap s (head g) (g .rest)
 
   pub book-length : length (l .booked) ≡ g .left
-  book-length = ap length (c .book-is) ∙ length-tokens cap s (g .done + g .taken) (g .left)
+  book-length = ap length (c .book-is) ∙ length-tokens cap s (g .completed + g .taken) (g .left)
 
   pub rest-none : g .rest ≡ 0 → l .resting ≡ []
   rest-none e = c .rest-is ∙ ap (tokens cap s (head g)) e ∙ tokens-zero cap s (head g)
 
   pub book-none : g .left ≡ 0 → l .booked ≡ []
-  book-none e = c .book-is ∙ ap (tokens cap s (g .done + g .taken)) e ∙ tokens-zero cap s (g .done + g .taken)
+  book-none e = c .book-is ∙ ap (tokens cap s (g .completed + g .taken)) e ∙ tokens-zero cap s (g .completed + g .taken)
 
-  pub joins-pop-last : 0 < g .rest → Joins cap s (popLast g) (pop lifo l)
+  pub joins-pop-last : 0 < g .rest → Joins cap s (popLast g) (pop Kind.Lifo l)
   unfolding popLast pop
   joins-pop-last h = record {
     sized = c .sized;
@@ -233,7 +233,7 @@ module _ (cap : ℕ) (pos : 0 < cap) {s : List ℕ} {g : Nums} {l : Lists} (c : 
   }
 
   -- the token popped is the one in the last slot
-  pub last-is : 0 < g .rest → popFrom lifo (l .resting) ≡ cell cap s (tail (popLast g))
+  pub last-is : 0 < g .rest → popFrom Kind.Lifo (l .resting) ≡ cell cap s (tail (popLast g))
   unfolding popLast
   last-is h =
       rw (rest-length, c .rest-is, one-less h)
@@ -248,10 +248,10 @@ module _ (cap : ℕ) (pos : 0 < cap) {s : List ℕ} {g : Nums} {l : Lists} (c : 
       rw (c .rest-is, split 1 (g .rest) (omega arith) (head g))
       (drop-at (tokens cap s (head g) 1) (tokens cap s (head g + 1) (g .rest - 1)) 1 (length-tokens cap s (head g) 1))
 
-  pub first-is : 0 < g .rest → popFrom fifo (l .resting) ≡ cell cap s (head g)
+  pub first-is : 0 < g .rest → popFrom Kind.Fifo (l .resting) ≡ cell cap s (head g)
   first-is h = ap (λ (x : List ℕ). getD x 0 0) (c .rest-is) ∙ getD-tokens cap s (head g) (g .rest) 0 h ∙ ap (cell cap s) (omega arith)
 
-  pub joins-pop-past : 0 < g .rest → g .who ≢ noone → Joins cap s (popPast g) (pop fifo l)
+  pub joins-pop-past : 0 < g .rest → g .who ≢ noone → Joins cap s (popPast g) (pop Kind.Fifo l)
   unfolding popPast pop
   joins-pop-past h n = record {
     sized = c .sized;
@@ -262,7 +262,7 @@ module _ (cap : ℕ) (pos : 0 < cap) {s : List ℕ} {g : Nums} {l : Lists} (c : 
     holder-is = c .holder-is;
   }
 
-  pub joins-pop-first : 0 < g .rest → g .who ≡ noone → g .taken + g .left + g .gone ≡ 0 → Joins cap s (popFirst g) (pop fifo l)
+  pub joins-pop-first : 0 < g .rest → g .who ≡ noone → g .taken + g .left + g .gone ≡ 0 → Joins cap s (popFirst g) (pop Kind.Fifo l)
   unfolding popFirst pop
   joins-pop-first h n e =
       let z : g .left ≡ 0 = omega arith in
@@ -270,7 +270,7 @@ module _ (cap : ℕ) (pos : 0 < cap) {s : List ℕ} {g : Nums} {l : Lists} (c : 
         sized = c .sized;
         fits = omega (arith, c .fits);
         rest-is = first-off h ∙ ap (λ (h : ℕ). tokens cap s h (g .rest - 1)) (omega arith);
-        book-is = book-none z ∙ sym (tokens-zero cap s (g .done + 1 + 0));
+        book-is = book-none z ∙ sym (tokens-zero cap s (g .completed + 1 + 0));
         kept-is = rw (c .holder-is, n) (omega (arith, c .kept-is));
         holder-is = c .holder-is;
       }
@@ -299,9 +299,9 @@ module _ (cap : ℕ) (pos : 0 < cap) {s : List ℕ} {g : Nums} {l : Lists} (c : 
     fits = omega (arith, c .fits);
     rest-is = c .rest-is ∙ ap (λ (h : ℕ). tokens cap s h (g .rest)) (omega arith);
     book-is =
-        rw (c .book-is, split n (g .left) le (g .done + g .taken))
-        (drop-at (tokens cap s (g .done + g .taken) n) (tokens cap s (g .done + g .taken + n) (g .left - n)) n
-        (length-tokens cap s (g .done + g .taken) n)
+        rw (c .book-is, split n (g .left) le (g .completed + g .taken))
+        (drop-at (tokens cap s (g .completed + g .taken) n) (tokens cap s (g .completed + g .taken + n) (g .left - n)) n
+        (length-tokens cap s (g .completed + g .taken) n)
         ∙ ap (λ (h : ℕ). tokens cap s h (g .left - n)) (omega arith));
     kept-is = omega (arith, c .kept-is);
     holder-is = c .holder-is;

@@ -1,19 +1,22 @@
--- A fresh machine, opened and not refused, holds what every run holds.
+-- A fresh machine, opened and not refused, holds what every run holds: its words are its positions, nothing rests and nobody has a call.
 use mathlib.Core.Path.{_≡_, refl, sym, ap, subst, _∙_}
 use mathlib.Core.Bool.{Bool, true, false}
 use mathlib.Core.List.{List, [], _∷_}
-use Prim.Native.Nat.{ℕ, _+_, _%_, _^_, _≤_, _<_, _∣_}
+use Prim.Native.Nat.{ℕ, _+_, _%_, _^_, _≤_, _<_}
 use native.Mathlib.Omega.{arith}
 use lib.ListN.{length, getD}
 use lib.Pow.{pow-pos}
 use lib.Dec.{ltb}
 use borrow.Author.Tests.{ltb-true, lt-ltb}
 use Rattle.words.specs.Word.{pick, packed, powBelow, capacityOf}
-use Rattle.words.proofs.Powers.{power-test, power-positive, power-most, power-divides}
+use Rattle.words.proofs.Powers.{power-test, power-positive, power-most}
 use Rattle.words.proofs.Doubling.{capacity-power}
-use Rattle.tables.specs.Rule.{Kind, lifo, fifo}
-use Rattle.tables.specs.Place as P
-use Rattle.tables.specs.Machine.{Queue, Machine, queueAt, baseOf, stretch}
+use Rattle.tables.specs.declared.state.Kind.{Kind}
+use Rattle.tables.specs.declared.state.Kind.the-variants as Kind
+use Rattle.tables.specs.declared.state.Machine.{Machine}
+use Rattle.tables.specs.declared.state.Queue.{Queue}
+use Rattle.tables.specs.declared.place.Place.the-variants as Place
+use Rattle.tables.specs.Machine.{queueAt, baseOf, stretch}
 use Rattle.tables.specs.Step.{openQueue, closedQueues, tables, openQueues}
 use Rattle.tables.specs.Lists.{noLists, replay}
 use Rattle.tables.specs.Causes.{noNotes}
@@ -34,21 +37,21 @@ use Rattle.agreement.proofs.Good.{Good, halves}
 pub record Capacity (w c : ℕ) : Type 0 where
   pub pos : 0 < c
   pub fits : c + c ≤ 2 ^ w
-  pub div : c ∣ 2 ^ w
+  pub pow : powBelow w c ≡ true
 
 power-capacity : (w c : ℕ) → 1 < w → powBelow w c ≡ true → Capacity w c
 power-capacity w c wide e =
-    record { pos = power-positive w c e; fits = omega (arith, power-most w c e, halves w wide); div = power-divides w c e }
+    record { pos = power-positive w c e; fits = omega (arith, power-most w c e, halves w wide); pow = e }
 
 -- ---- its tables
 
 freshNums : ℕ → Nums
-freshNums at = record { done = at; taken = 0; left = 0; gone = 0; rest = 0; pops = 0; pushed = at; moved = 0; start = at; who = noone }
+freshNums at = record { completed = at; taken = 0; left = 0; gone = 0; rest = 0; pops = 0; pushed = at; moved = 0; start = at; who = noone }
 
 fresh-part : (k : Kind) (at : ℕ) → Part k (freshNums at)
 unfolding freshNums
-fresh-part lifo at = record { pushed-is = omega arith; gone-no = refl; moved-is = omega arith }
-fresh-part fifo at = record { pushed-is = omega arith; gone-no = λ _. refl; moved-is = omega arith }
+fresh-part Kind.Lifo at = record { pushed-is = omega arith; gone-no = refl; moved-is = omega arith }
+fresh-part Kind.Fifo at = record { pushed-is = omega arith; gone-no = λ _. refl; moved-is = omega arith }
 
 fresh-whole : (w : ℕ) (k : Kind) (cap : ℕ) (s : List ℕ) (at : ℕ) → Capacity w cap → length s ≡ cap → Whole w k cap s (freshNums at) noLists
 unfolding freshNums
@@ -63,7 +66,7 @@ fresh-whole w k cap s at c e = record {
   };
   cap-pos = c .pos;
   cap-fits = c .fits;
-  cap-div = c .div;
+  cap-pow = c .pow;
   free = λ _. refl;
   shut = λ _. refl;
   part = fresh-part k at;
@@ -71,16 +74,16 @@ fresh-whole w k cap s at c e = record {
 
 fresh-words : (w : ℕ) (k : Kind) (r at : ℕ) → at < 2 ^ w → openQueue w k r at ≡ wordsOf w k (capacityOf w r) (freshNums at)
 unfolding freshNums
-fresh-words w lifo r at lt =
+fresh-words w Kind.Lifo r at lt =
     let e : at ≡ at % 2 ^ w = small w lt in
     let h : at ≡ (at + 0 + 0 + 0) % 2 ^ w = e ∙ ap (λ (n : ℕ). n % 2 ^ w) (omega arith) in
     let z : packed w 0 at ≡ pair w 0 (at + 0 + 0 + 0) = pair-of w 0 (at + 0 + 0 + 0) (small w (pow-pos w)) h in
-    λ i. record { kind = lifo; capacity = capacityOf w r; count = e i; packed = z i; done = e i }
-fresh-words w fifo r at lt =
+    λ i. record { kind = Kind.Lifo; capacity = capacityOf w r; pushes = e i; packed = z i; completed = e i }
+fresh-words w Kind.Fifo r at lt =
     let e : at ≡ at % 2 ^ w = small w lt in
     let h : at ≡ (at + 0 + 0 + 0) % 2 ^ w = e ∙ ap (λ (n : ℕ). n % 2 ^ w) (omega arith) in
     let z : packed w at at ≡ pair w (at + 0 + 0 + 0) at = pair-of w (at + 0 + 0 + 0) at h e in
-    λ i. record { kind = fifo; capacity = capacityOf w r; count = e i; packed = z i; done = 0 }
+    λ i. record { kind = Kind.Fifo; capacity = capacityOf w r; pushes = e i; packed = z i; completed = 0 }
 
 module _ (w most : ℕ) (wide : 1 < w) (ks : List Kind) (n : ℕ) (rs ps xs : List ℕ) (within : (q : ℕ) → getD ps q 0 < 2 ^ w)
     (c : CanOpen w most ks n rs ps (length xs)) where
@@ -90,7 +93,7 @@ module _ (w most : ℕ) (wide : 1 < w) (ks : List Kind) (n : ℕ) (rs ps xs : Li
   -- queues that the record has; past them, any
   cellOf : Bool → ℕ → Cell
   cellOf b x = record {
-    kind = pick b (getD ks x lifo) lifo;
+    kind = pick b (getD ks x Kind.Lifo) Kind.Lifo;
     cap = pick b (capacityOf w (getD rs x 0)) 1;
     s = pick b (stretch (baseOf x (openQueues w most ks n rs ps)) (capacityOf w (getD rs x 0)) xs) (0 ∷ []);
     g = freshNums (pick b (getD ps x 0) 0);
@@ -101,14 +104,14 @@ module _ (w most : ℕ) (wide : 1 < w) (ks : List Kind) (n : ℕ) (rs ps xs : Li
   cells₀ x = cellOf (ltb x n) x
 
   member₀ : Member
-  member₀ = record { pl = P.idle; bl = P.idle; drain = record { at = 0; end = 0 }; hand = []; items = []; fm = 0; fill = 0 }
+  member₀ = record { pl = Place.Idle; bl = Place.Idle; drain = record { at = 0; end = 0 }; hand = []; items = []; fm = 0; fill = 0 }
 
-  queue₀ : (x : ℕ) → x < n → queueAt m₀ x ≡ openQueue w (getD ks x lifo) (getD rs x 0) (getD ps x 0)
+  queue₀ : (x : ℕ) → x < n → queueAt m₀ x ≡ openQueue w (getD ks x Kind.Lifo) (getD rs x 0) (getD ps x 0)
   unfolding m₀
   queue₀ x lt = opened-queue w most ks n rs ps (length xs) c x lt
 
   cap₀ : (x : ℕ) → x < n → queueAt m₀ x .capacity ≡ capacityOf w (getD rs x 0)
-  cap₀ x lt = ap (λ (q : Queue). q .capacity) (queue₀ x lt) ∙ open-capacity w (getD ks x lifo) (getD rs x 0) (getD ps x 0)
+  cap₀ x lt = ap (λ (q : Queue). q .capacity) (queue₀ x lt) ∙ open-capacity w (getD ks x Kind.Lifo) (getD rs x 0) (getD ps x 0)
 
   ends-by : (x : ℕ) → x < n → baseOf x (openQueues w most ks n rs ps) + capacityOf w (getD rs x 0) ≤ length xs
   unfolding m₀
@@ -120,9 +123,9 @@ module _ (w most : ℕ) (wide : 1 < w) (ks : List Kind) (n : ℕ) (rs ps xs : Li
       let lt : x < n = ltb-true x n e in
       let d : Capacity w (capacityOf w (getD rs x 0)) = power-capacity w (capacityOf w (getD rs x 0)) wide
       (capacity-power w (requests-small w ks rs ps n (c .requests) x lt) (omega arith)) in
-      fresh-whole w (getD ks x lifo) (capacityOf w (getD rs x 0)) _ (getD ps x 0) d
+      fresh-whole w (getD ks x Kind.Lifo) (capacityOf w (getD rs x 0)) _ (getD ps x 0) d
       (stretch-length (baseOf x (openQueues w most ks n rs ps)) (capacityOf w (getD rs x 0)) xs (ends-by x lt))
-  ok₀ x false e = fresh-whole w lifo 1 (0 ∷ []) 0 (power-capacity w 1 wide (power-test {k = 0} (omega arith))) refl
+  ok₀ x false e = fresh-whole w Kind.Lifo 1 (0 ∷ []) 0 (power-capacity w 1 wide (power-test {k = 0} (omega arith))) refl
 
   inv₀ : MInv w n cells₀ (λ p. member₀)
   unfolding cells₀ cellOf member₀ freshNums
@@ -138,7 +141,7 @@ module _ (w most : ℕ) (wide : 1 < w) (ks : List Kind) (n : ℕ) (rs ps xs : Li
   unfolding m₀ cells₀ cellOf member₀
   fits₀ = record {
     q-are =
-        λ x lt. queue₀ x lt ∙ fresh-words w (getD ks x lifo) (getD rs x 0) (getD ps x 0) (within x)
+        λ x lt. queue₀ x lt ∙ fresh-words w (getD ks x Kind.Lifo) (getD rs x 0) (getD ps x 0) (within x)
         ∙ ap (λ (b : Bool). words w (cellOf b x)) (sym (lt-ltb x n lt));
     s-are =
         λ x lt. ap (λ (c : ℕ). stretch (baseOf x (openQueues w most ks n rs ps)) c xs) (cap₀ x lt)

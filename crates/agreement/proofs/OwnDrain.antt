@@ -1,4 +1,5 @@
--- The holder of an open drain takes its next token: next, and one step of drop.
+-- The holder of an open drain takes its next token: next, and one step of drop. Nobody else takes from its booking, so the token at the
+-- drain's position is the first booked.
 use mathlib.Core.Path.{_≡_, refl, sym, ap, ap₂, _∙_}
 use mathlib.Core.Logic.{_≢_, inr}
 use mathlib.Core.Bool.{Bool, true, false, not}
@@ -9,19 +10,22 @@ use lib.ListN.{length, getD}
 use lib.Dec.{eqb}
 use borrow.Author.Tests.{eqb-true, eqb-false, eq-eqb, ne-eqb, lt-ltb, le-leb}
 use Rattle.words.specs.Word.{pick, orb, plus}
-use Rattle.tables.specs.Rule.{Kind, lifo, fifo, Mark}
-use Rattle.tables.specs.Errand as G
-use Rattle.tables.specs.Place as P
-use Rattle.tables.specs.Machine.{Drain}
+use Rattle.tables.specs.declared.answer.Answer.the-variants as Answer
+use Rattle.tables.specs.declared.answer.Change.the-variants as Change
+use Rattle.tables.specs.declared.call.Mark.{Mark}
+use Rattle.tables.specs.declared.state.Drain.{Drain}
+use Rattle.tables.specs.declared.state.Kind.{Kind}
+use Rattle.tables.specs.declared.state.Kind.the-variants as Kind
+use Rattle.tables.specs.declared.place.ClosingCall.the-variants as ClosingCall
+use Rattle.tables.specs.declared.place.OwnPlace.the-variants as OwnPlace
+use Rattle.tables.specs.declared.place.Place.the-variants as Place
 use Rattle.tables.specs.Access.{shows, sawToken}
-use Rattle.tables.specs.Answer as A
-use Rattle.tables.specs.Effect as E
 use Rattle.tables.specs.Table.{closing}
-use Rattle.tables.specs.Lists.{heldBy, Lists, tokens, leave, can}
+use Rattle.tables.specs.Lists.{heldBy, Lists, leave, can}
 use Rattle.tables.proofs.Bools.{and-left}
-use Rattle.agreement.specs.Shows.{byDrain}
+use Rattle.tables.specs.Shows.{byDrain}
 use Rattle.agreement.proofs.Wrap.{plus-is, same}
-use Rattle.agreement.proofs.Ring.{cell, getD-tokens}
+use Rattle.agreement.proofs.Ring.{tokens, cell, getD-tokens}
 use Rattle.agreement.proofs.Nums.{Who, noone, drain, Nums, tail, moves, book-length, joins-move}
 use Rattle.agreement.proofs.Whole.{Whole, wordsOf, words-move, part-move, RB, RH, cap-small, slot-of}
 use Rattle.agreement.proofs.Facts.{OwnF, BkC, DrainIs, DrnF}
@@ -39,20 +43,20 @@ module _ (w p fill : ℕ) (items hand : List ℕ) (from k : Kind) (mark : Mark) 
   drain-some ne = let z : g .left ≢ 0 = λ e. ne (a .at-is ∙ ap (λ (n : ℕ). n % 2 ^ w) (omega arith) ∙ sym (a .end-is)) in omega arith
 
   module _ (some : 0 < g .left) where
-    at₁ : d₁ .at ≡ (g .done + g .taken + 1) % 2 ^ w
+    at₁ : d₁ .at ≡ (g .completed + g .taken + 1) % 2 ^ w
     unfolding d₁
-    at₁ = plus-is w (g .done + g .taken) 1 (a .at-is)
+    at₁ = plus-is w (g .completed + g .taken) 1 (a .at-is)
 
     last : d₁ .at ≡ d .end → g .left ≡ 1
-    last e = let z : g .done + g .taken + g .left ≡ g .done + g .taken + 1 = same w (g .done + g .taken + g .left)
-        (g .done + g .taken + 1) (a .end-is) at₁ (sym e) (omega arith) (omega (arith, i .joins .fits, cap-small w k i)) in omega arith
+    last e = let z : g .completed + g .taken + g .left ≡ g .completed + g .taken + 1 = same w (g .completed + g .taken + g .left)
+        (g .completed + g .taken + 1) (a .end-is) at₁ (sym e) (omega arith) (omega (arith, i .joins .fits, cap-small w k i)) in omega arith
 
     -- the slot shows the first booked token
     token : getD s (d .at % cap) 0 ≡ getD (l .booked) 0 0
     unfolding cell
     token =
-        rw (slot-of w k i (g .done + g .taken) (a .at-is), i .joins .book-is)
-        (sym (getD-tokens cap s (g .done + g .taken) (g .left) 0 some ∙ ap (λ (n : ℕ). getD s (n % cap) 0) (omega arith)))
+        rw (slot-of w k i (g .completed + g .taken) (a .at-is), i .joins .book-is)
+        (sym (getD-tokens cap s (g .completed + g .taken) (g .left) 0 some ∙ ap (λ (n : ℕ). getD s (n % cap) 0) (omega arith)))
 
     ok₁ : Whole w k cap s (moves 1 g) (leave 1 l)
     unfolding moves
@@ -60,7 +64,7 @@ module _ (w p fill : ℕ) (items hand : List ℕ) (from k : Kind) (mark : Mark) 
       joins = joins-move cap (i .cap-pos) (i .joins) 1 some;
       cap-pos = i .cap-pos;
       cap-fits = i .cap-fits;
-      cap-div = i .cap-div;
+      cap-pow = i .cap-pow;
       free = λ z. absurd (omega arith);
       shut = λ z. absurd (not-free z);
       part = part-move k g 1 some (omega arith) (i .part);
@@ -81,8 +85,8 @@ module _ (w p fill : ℕ) (items hand : List ℕ) (from k : Kind) (mark : Mark) 
 
     closed₁ : (k₂ : Kind) → g .left ≡ 1 → BkC w (drain p) (closing k₂ (d .end)) k₂ (moves 1 g)
     unfolding moves
-    closed₁ lifo e = (refl, a .who-is, omega arith, a .end-is ∙ ap (λ (n : ℕ). n % 2 ^ w) (omega arith))
-    closed₁ fifo e = (refl, a .who-is, omega arith)
+    closed₁ Kind.Lifo e = (refl, a .who-is, omega arith, a .end-is ∙ ap (λ (n : ℕ). n % 2 ^ w) (omega arith))
+    closed₁ Kind.Fifo e = (refl, a .who-is, omega arith)
 
     rb₁ : RB g (moves 1 g)
     unfolding moves
@@ -105,14 +109,14 @@ module _ (w p fill : ℕ) (items hand : List ℕ) (from k : Kind) (mark : Mark) 
     unfolding d₁
     claim-drain y ne h = rw (mine y h, ne-eqb (plus w (d .at) 1) (d .end) ne)
 
-    pub next-on : OwnF w fill items hand (P.own P.nextItem) k cap s g l → (b : Bool) → eqb (plus w (d .at) 1) (d .end) ≡ b
-        → OwnNext w p fill items hand from k cap s g l d (P.own P.nextItem)
+    pub next-on : OwnF w fill items hand (Place.Own OwnPlace.NextItem) k cap s g l → (b : Bool) → eqb (plus w (d .at) 1) (d .end) ≡ b
+        → OwnNext w p fill items hand from k cap s g l d (Place.Own OwnPlace.NextItem)
         (shows (wordsOf w k cap g) s (sawToken (getD s (d .at % cap) 0)))
         (record {
-          place = pick b (P.close (G.item (getD s (d .at % cap) 0)) (closing k (d .end))) P.idle;
+          place = pick b (Place.Close (ClosingCall.Next (getD s (d .at % cap) 0)) (closing k (d .end))) Place.Idle;
           drain = record { at = plus w (d .at) 1; end = d .end };
-          answer = pick b A.pending (A.item (getD s (d .at % cap) 0));
-          deed = E.drained;
+          answer = pick b Answer.Pending (Answer.Item (getD s (d .at % cap) 0));
+          change = Change.Drained;
         })
     unfolding moves leave can d₁
     next-on o true e = record {
@@ -136,7 +140,7 @@ module _ (w p fill : ℕ) (items hand : List ℕ) (from k : Kind) (mark : Mark) 
       moved-s = omega arith;
       still = λ _. refl;
       still-n = λ g₂. tt;
-      single = tt;
+      single = refl;
       can-s = rw (held₁, lt-ltb 0 (length (l .booked)) (omega (arith, book-length cap (i .cap-pos) (i .joins)))) refl;
       why = tt;
     }
@@ -157,19 +161,19 @@ module _ (w p fill : ℕ) (items hand : List ℕ) (from k : Kind) (mark : Mark) 
       moved-s = omega arith;
       still = λ _. refl;
       still-n = λ g₂. tt;
-      single = tt;
+      single = refl;
       can-s = rw (held₁, lt-ltb 0 (length (l .booked)) (omega (arith, book-length cap (i .cap-pos) (i .joins)))) refl;
       why = tt;
     }
 
-    pub drop-on : OwnF w fill items hand (P.own P.dropItem) k cap s g l → (b : Bool) → eqb (plus w (d .at) 1) (d .end) ≡ b
-        → OwnNext w p fill items hand from k cap s g l d (P.own P.dropItem)
+    pub drop-on : OwnF w fill items hand (Place.Own OwnPlace.DropItem) k cap s g l → (b : Bool) → eqb (plus w (d .at) 1) (d .end) ≡ b
+        → OwnNext w p fill items hand from k cap s g l d (Place.Own OwnPlace.DropItem)
         (shows (wordsOf w k cap g) s (sawToken (getD s (d .at % cap) 0)))
         (record {
-          place = pick b (P.close G.dropped (closing k (d .end))) (P.own P.dropItem);
+          place = pick b (Place.Close ClosingCall.Drop (closing k (d .end))) (Place.Own OwnPlace.DropItem);
           drain = record { at = plus w (d .at) 1; end = d .end };
-          answer = A.pending;
-          deed = E.dropped 1;
+          answer = Answer.Pending;
+          change = Change.Dropped 1;
         })
     unfolding moves leave can d₁
     drop-on o true e = record {
@@ -189,7 +193,7 @@ module _ (w p fill : ℕ) (items hand : List ℕ) (from k : Kind) (mark : Mark) 
       moved-s = omega arith;
       still = λ _. refl;
       still-n = λ g₂. tt;
-      single = tt;
+      single = refl;
       can-s = rw (held₁, le-leb 1 (length (l .booked)) (omega (arith, book-length cap (i .cap-pos) (i .joins)))) refl;
       why = tt;
     }
@@ -210,7 +214,7 @@ module _ (w p fill : ℕ) (items hand : List ℕ) (from k : Kind) (mark : Mark) 
       moved-s = omega arith;
       still = λ _. refl;
       still-n = λ g₂. tt;
-      single = tt;
+      single = refl;
       can-s = rw (held₁, le-leb 1 (length (l .booked)) (omega (arith, book-length cap (i .cap-pos) (i .joins)))) refl;
       why = tt;
     }

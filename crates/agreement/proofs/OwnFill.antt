@@ -1,4 +1,5 @@
--- The owner's steps that both kinds share: loads that are done, the write and the store of push and extend, the read that ends a pop.
+-- The owner's steps that both kinds share: loads that are done, the write and the store of push and extend, the read that ends a pop. Nobody
+-- else moves the tail or writes past it, and the completed head only grows: the room that was seen is there still.
 use mathlib.Core.Path.{_≡_, refl, sym, ap, ap₂, _∙_}
 use mathlib.Core.Logic.{_≢_, inl}
 use mathlib.Core.Bool.{Bool, true, false}
@@ -10,47 +11,55 @@ use lib.ListN.{set}
 use lib.Dec.{ltb, eqb}
 use borrow.Author.Tests.{ltb-true, ltb-false, eqb-false, eq-eqb}
 use Rattle.words.specs.Word.{pick, plus, minus}
-use Rattle.tables.specs.Rule.{Kind, lifo, fifo, Mark}
-use Rattle.tables.specs.Errand as G
-use Rattle.tables.specs.Errand.{Fill, Errand}
-use Rattle.tables.specs.Place as P
-use Rattle.tables.specs.Place.{Place}
-use Rattle.tables.specs.Machine.{Drain}
-use Rattle.tables.specs.Access.{Seen, shows, withCount, nothingSeen}
-use Rattle.tables.specs.Answer as A
-use Rattle.tables.specs.Answer.{Answer}
-use Rattle.tables.specs.Effect as E
-use Rattle.tables.specs.Row.{Sight}
+use Rattle.tables.specs.declared.access.Context.{Context}
+use Rattle.tables.specs.declared.access.Seen.{Seen}
+use Rattle.tables.specs.declared.answer.Answer.{Answer}
+use Rattle.tables.specs.declared.answer.Answer.the-variants as Answer
+use Rattle.tables.specs.declared.answer.Change.the-variants as Change
+use Rattle.tables.specs.declared.call.Mark.{Mark}
+use Rattle.tables.specs.declared.state.Drain.{Drain}
+use Rattle.tables.specs.declared.state.Kind.{Kind}
+use Rattle.tables.specs.declared.state.Kind.the-variants as Kind
+use Rattle.tables.specs.declared.place.BookingCall.the-variants as BookingCall
+use Rattle.tables.specs.declared.place.OwnPlace.{OwnPlace}
+use Rattle.tables.specs.declared.place.OwnPlace.the-variants as OwnPlace
+use Rattle.tables.specs.declared.place.OwnerCall.{OwnerCall}
+use Rattle.tables.specs.declared.place.OwnerCall.the-variants as OwnerCall
+use Rattle.tables.specs.declared.place.Place.{Place}
+use Rattle.tables.specs.declared.place.Place.the-variants as Place
+use Rattle.tables.specs.declared.place.TransferCall.{TransferCall}
+use Rattle.tables.specs.Access.{shows, withPushes, nothingSeen}
 use Rattle.tables.specs.Table.{filled, brought, booking, limitOf}
 use Rattle.tables.specs.Tables.{sourceOf}
-use Rattle.tables.specs.Lists.{Lists, tokens, offer, accept, can, named, inFront}
-use Rattle.agreement.specs.Shows.{waits, ownWaits, byPlace}
+use Rattle.tables.specs.Answer.{handedOut}
+use Rattle.tables.specs.Lists.{Lists, offer, accept, can, inFront}
+use Rattle.tables.specs.Shows.{waits, ownWaits, byPlace}
 use Rattle.agreement.proofs.Wrap.{small, plus-is, diff}
-use Rattle.agreement.proofs.Ring.{tokens-zero, tokens-write}
+use Rattle.agreement.proofs.Ring.{tokens, tokens-zero, tokens-write}
 use Rattle.agreement.proofs.Nums.{noone, drain, Nums, head, tail, Joins, more, joins-write, joins-offer, joins-accept}
 use Rattle.agreement.proofs.Whole.{Whole, wordsOf, words-more, part-more, rb-refl, rh-refl, cap-small, slot-of}
-use Rattle.agreement.proofs.Facts.{Ext, OwnP, handOf, OwnF, BkB, BkF, held}
+use Rattle.agreement.proofs.Facts.{Ext, OwnP, handIn, OwnF, BkB, BkF, held}
 use Rattle.agreement.proofs.Steps.{handOver, Why, bookStill, Still, OwnNext}
 
-abbrev pub sightOf : (k : Kind) (cap : ℕ) (from : Kind) → Drain → Mark → Sight
-sightOf k cap from d mark = record { kind = k; capacity = cap; from = from; drain = d; mark = mark }
+abbrev pub contextOf : (k : Kind) (cap : ℕ) (from : Kind) → Drain → Mark → Context
+contextOf k cap from d mark = record { kind = k; capacity = cap; from = from; drain = d; mark = mark }
 
 -- a place at which nothing waits, is in hand or is held
 pub record Calm (p cap : ℕ) (s : List ℕ) (pl : Place) : Type 0 where
   pub waits-no : waits pl ≡ 0
-  pub hand-no : handOf cap s pl ≡ []
+  pub hand-no : handIn cap s pl ≡ []
   pub holds-no : (y : ℕ) → byPlace p pl y .holds ≡ false
 
 module _ (w p : ℕ) (items : List ℕ) (from k : Kind) {cap : ℕ} {s : List ℕ} {g : Nums} {l : Lists} (i : Whole w k cap s g l) (d : Drain)
   where
     -- a step that only loads, or answers
-    pub stay : (fill : ℕ) (hand : List ℕ) (pl pl′ : Place) (a : Answer) (x : Seen) → inFront (named a) hand ≡ true
+    pub stay : (fill : ℕ) (hand : List ℕ) (pl pl′ : Place) (a : Answer) (x : Seen) → inFront (handedOut a) hand ≡ true
         → OwnF w fill items (handOver a hand) pl′ k cap s g l → sourceOf p pl′ ≡ sourceOf p pl
         → ((fm : ℕ) (g₂ : Nums) (l₂ : Lists) → BkF w p fm items pl from g₂ l₂ → BkF w p fm items pl′ from g₂ l₂)
         → ((y : ℕ) → held w p pl d y ≡ true → held w p pl′ d y ≡ true) → ((g₂ : Nums) → Still w pl′ g₂)
         → Why (fill ≡ cap) (l .resting ≡ []) ⊥ ⊥ a
         → OwnNext w p fill items hand from k cap s g l d pl (shows (wordsOf w k cap g) s x)
-        (record { place = pl′; drain = d; answer = a; deed = E.nothing })
+        (record { place = pl′; drain = d; answer = a; change = Change.None })
     unfolding can
     stay fill hand pl pl′ a x fr o sr b c st y = record {
       g′ = g;
@@ -69,7 +78,7 @@ module _ (w p : ℕ) (items : List ℕ) (from k : Kind) {cap : ℕ} {s : List �
       moved-s = omega arith;
       still = λ _. refl;
       still-n = st;
-      single = tt;
+      single = refl;
       can-s = refl;
       why = y;
     }
@@ -81,9 +90,9 @@ module _ (w p : ℕ) (items : List ℕ) (from k : Kind) {cap : ℕ} {s : List �
         → ((fm : ℕ) (g₂ : Nums) (l₂ : Lists) → BkF w p fm items pl′ from g₂ l₂)
         → ((g₂ : Nums) → Still w pl′ g₂)
         → OwnNext w p fill′ items hand from k cap s g l d pl (shows (wordsOf w k cap g) s x)
-        (record { place = pl′; drain = d; answer = A.pending; deed = E.nothing })
+        (record { place = pl′; drain = d; answer = Answer.Pending; change = Change.None })
     goes fill fill′ hand pl pl′ x c c′ a f sr b st =
-        stay fill′ hand pl pl′ A.pending x refl
+        stay fill′ hand pl pl′ Answer.Pending x refl
         (record {
           wait-is = a .wait-is ∙ ap (tokens cap s (tail g)) (c .waits-no ∙ sym (c′ .waits-no));
           hand-is = a .hand-is ∙ c .hand-no ∙ sym (c′ .hand-no);
@@ -92,17 +101,17 @@ module _ (w p : ℕ) (items : List ℕ) (from k : Kind) {cap : ℕ} {s : List �
         sr (λ fm g₂ l₂ _. b fm g₂ l₂) (λ y h. rw (c′ .holds-no y) (rw (c .holds-no y) at h)) st tt
 
     -- a call ends, with nothing in hand
-    pub stops : (fill fill′ : ℕ) (hand : List ℕ) (pl : Place) (a : Answer) (x : Seen) → named a ≡ [] → Calm p cap s pl
+    pub stops : (fill fill′ : ℕ) (hand : List ℕ) (pl : Place) (a : Answer) (x : Seen) → handedOut a ≡ [] → Calm p cap s pl
         → OwnF w fill items hand pl k cap s g l
         → sourceOf p pl ≡ p → Why (fill′ ≡ cap) (l .resting ≡ []) ⊥ ⊥ a
         → OwnNext w p fill′ items hand from k cap s g l d pl (shows (wordsOf w k cap g) s x)
-        (record { place = P.idle; drain = d; answer = a; deed = E.nothing })
+        (record { place = Place.Idle; drain = d; answer = a; change = Change.None })
     stops fill fill′ hand pl a x bare c o sr y =
-        stay fill′ hand pl P.idle a x (rw bare refl)
+        stay fill′ hand pl Place.Idle a x (rw bare refl)
         (record { wait-is = o .wait-is ∙ ap (tokens cap s (tail g)) (c .waits-no); hand-is = rw bare (o .hand-is ∙ c .hand-no); at = tt })
         (sym sr) (λ fm g₂ l₂ _. tt) (λ z h. rw (c .holds-no z) at h) (λ g₂. tt) y
 
-    calm-own : (q : P.OwnPlace) → ownWaits q ≡ 0 → handOf cap s (P.own q) ≡ [] → Calm p cap s (P.own q)
+    calm-own : (q : OwnPlace) → ownWaits q ≡ 0 → handIn cap s (Place.Own q) ≡ [] → Calm p cap s (Place.Own q)
     calm-own q e h = record { waits-no = e; hand-no = h; holds-no = λ y. refl }
 
     -- what the loads found: true numbers behind the words
@@ -114,7 +123,7 @@ module _ (w p : ℕ) (items : List ℕ) (from k : Kind) {cap : ℕ} {s : List �
       pub pushed-is : tail g + pg ≡ g .pushed
       pub at-is : at ≡ tail g % 2 ^ w
       pub hd-is : hd ≡ dg % 2 ^ w
-      pub old : dg ≤ g .done
+      pub old : dg ≤ g .completed
       pub fill-is : fill + dg ≡ tail g
       pub fill-fits : fill ≤ cap
 
@@ -128,26 +137,26 @@ module _ (w p : ℕ) (items : List ℕ) (from k : Kind) {cap : ℕ} {s : List �
           (omega (arith, cap-small w k i)))
 
       -- push, extend and spare
-      pub is-filled : (fill₀ : ℕ) (hand : List ℕ) (pl : Place) (x : Seen) (mark : Mark) (f : Fill) → Calm p cap s pl → sourceOf p pl ≡ p
+      pub is-filled : (fill₀ : ℕ) (hand : List ℕ) (pl : Place) (x : Seen) (mark : Mark) (f : OwnerCall) → Calm p cap s pl → sourceOf p pl ≡ p
           → OwnF w fill₀ items hand pl k cap s g l
           → OwnNext w p fill items hand from k cap s g l d pl (shows (wordsOf w k cap g) s x)
-          (filled w (sightOf k cap from d mark) f word pops at hd)
-      is-filled fill₀ hand pl x mark (G.push t) c sr o = go (ltb (cap - 1) (minus w at hd)) refl
+          (filled w (contextOf k cap from d mark) f word pops at hd)
+      is-filled fill₀ hand pl x mark (OwnerCall.Push t) c sr o = go (ltb (cap - 1) (minus w at hd)) refl
         where
           go : (b : Bool) → ltb (cap - 1) (minus w at hd) ≡ b
               → OwnNext w p fill items hand from k cap s g l d pl (shows (wordsOf w k cap g) s x)
-              (pick b (record { place = P.idle; drain = d; answer = A.full t; deed = E.nothing })
-              (record { place = P.own (P.pushWrite t word at); drain = d; answer = A.pending; deed = E.nothing }))
-          go true e = stops fill₀ fill hand pl (A.full t) x refl c o sr
+              (pick b (record { place = Place.Idle; drain = d; answer = Answer.Full t; change = Change.None })
+              (record { place = Place.Own (OwnPlace.PushWrite t word at); drain = d; answer = Answer.Pending; change = Change.None }))
+          go true e = stops fill₀ fill hand pl (Answer.Full t) x refl c o sr
               (let h : cap - 1 < minus w at hd = ltb-true (cap - 1) (minus w at hd) e in omega (arith, gap, a .fill-fits))
-          go false e = goes fill₀ fill hand pl (P.own (P.pushWrite t word at)) x c (calm-own (P.pushWrite t word at) refl refl) o
+          go false e = goes fill₀ fill hand pl (Place.Own (OwnPlace.PushWrite t word at)) x c (calm-own (OwnPlace.PushWrite t word at) refl refl) o
               (let h : minus w at hd ≤ cap - 1 = ltb-false (cap - 1) (minus w at hd) e in record {
                 word-is = a .word-is;
                 at-is = a .at-is;
                 room-is = omega (arith, gap, a .fill-is, a .old, i .cap-pos);
               })
               (sym sr) (λ fm g₂ l₂. tt) (λ g₂. tt)
-      is-filled fill₀ hand pl x mark G.extend c sr o = go (eqb at (plus w hd cap)) refl
+      is-filled fill₀ hand pl x mark OwnerCall.Extend c sr o = go (eqb at (plus w hd cap)) refl
         where
           ext : Ext w cap g pops at 0
           ext = record {
@@ -161,15 +170,15 @@ module _ (w p : ℕ) (items : List ℕ) (from k : Kind) {cap : ℕ} {s : List �
           go : (b : Bool) → eqb at (plus w hd cap) ≡ b
               → OwnNext w p fill items hand from k cap s g l d pl (shows (wordsOf w k cap g) s x)
               (record {
-                place = P.own (pick b (P.extendStore pops at 0) (P.extendMore pops at (plus w hd cap) 0));
+                place = Place.Own (pick b (OwnPlace.ExtendStore pops at 0) (OwnPlace.ExtendMore pops at (plus w hd cap) 0));
                 drain = d;
-                answer = A.pending;
-                deed = E.nothing;
+                answer = Answer.Pending;
+                change = Change.None;
               })
-          go true e = goes fill₀ fill hand pl (P.own (P.extendStore pops at 0)) x c (calm-own (P.extendStore pops at 0) refl refl) o ext
+          go true e = goes fill₀ fill hand pl (Place.Own (OwnPlace.ExtendStore pops at 0)) x c (calm-own (OwnPlace.ExtendStore pops at 0) refl refl) o ext
               (sym sr) (λ fm g₂ l₂. tt) (λ g₂. tt)
-          go false e = goes fill₀ fill hand pl (P.own (P.extendMore pops at (plus w hd cap) 0)) x c
-              (calm-own (P.extendMore pops at (plus w hd cap) 0) refl refl) o
+          go false e = goes fill₀ fill hand pl (Place.Own (OwnPlace.ExtendMore pops at (plus w hd cap) 0)) x c
+              (calm-own (OwnPlace.ExtendMore pops at (plus w hd cap) 0) refl refl) o
               (let ne : tail g ≢ a .dg + cap = λ z. eqb-false at (plus w hd cap) e (a .at-is ∙ ap (λ (n : ℕ). n % 2 ^ w) z
               ∙ sym (plus-is w (a .dg) cap (a .hd-is))) in
               record {
@@ -180,41 +189,41 @@ module _ (w p : ℕ) (items : List ℕ) (from k : Kind) {cap : ℕ} {s : List �
                 below = omega (arith, a .fill-is, a .fill-fits);
               })
               (sym sr) (λ fm g₂ l₂. tt) (λ g₂. tt)
-      is-filled fill₀ hand pl x mark G.spare c sr o = stops fill₀ fill hand pl (A.spare (minus w cap (minus w at hd))) x refl c o sr tt
+      is-filled fill₀ hand pl x mark OwnerCall.Spare c sr o = stops fill₀ fill hand pl (Answer.Spare (minus w cap (minus w at hd))) x refl c o sr tt
 
       -- steal and take
-      pub is-brought : (fill₀ : ℕ) (hand : List ℕ) (pl : Place) (x : Seen) (mark : Mark) (e : Errand) → Calm p cap s pl
+      pub is-brought : (fill₀ : ℕ) (hand : List ℕ) (pl : Place) (x : Seen) (mark : Mark) (e : TransferCall) → Calm p cap s pl
           → sourceOf p pl ≡ e .source → OwnF w fill₀ items hand pl k cap s g l
           → OwnNext w p fill items hand from k cap s g l d pl (shows (wordsOf w k cap g) s x)
-          (brought w (sightOf k cap from d mark) e word at hd)
+          (brought w (contextOf k cap from d mark) e word at hd)
       is-brought fill₀ hand pl x mark e c sr o =
-          goes fill₀ fill hand pl (P.book (G.haul e (record { word = word; tail = at; room = minus w cap (minus w at hd) })) (booking from))
+          goes fill₀ fill hand pl (Place.Book (BookingCall.Transfer e (record { word = word; tail = at; room = minus w cap (minus w at hd) })) (booking from))
           x c
           (record { waits-no = refl; hand-no = refl; holds-no = λ y. refl }) o
           (record { word-is = a .word-is; at-is = a .at-is; room-is = omega (arith, room, a .fill-is, a .old) }, room) (sym sr)
-          (λ fm g₂ l₂. first from fm (limitOf w (G.haul e (record { word = word; tail = at; room = minus w cap (minus w at hd) }))) g₂)
+          (λ fm g₂ l₂. first from fm (limitOf w (BookingCall.Transfer e (record { word = word; tail = at; room = minus w cap (minus w at hd) }))) g₂)
           (λ g₂. starts from g₂)
         where
           first : (f : Kind) (fm limit : ℕ) (g₂ : Nums) → BkB w fm limit (booking f) f g₂
-          first lifo fm limit g₂ = refl
-          first fifo fm limit g₂ = refl
+          first Kind.Lifo fm limit g₂ = refl
+          first Kind.Fifo fm limit g₂ = refl
 
           starts : (f : Kind) (g₂ : Nums) → bookStill w (booking f) g₂
-          starts lifo g₂ = tt
-          starts fifo g₂ = tt
+          starts Kind.Lifo g₂ = tt
+          starts Kind.Fifo g₂ = tt
 
     -- ---- push and extend
 
     -- one more token offered past the tail, where j stand already
-    pub offers : (fill : ℕ) (hand : List ℕ) (pl pl′ : Place) (at j t : ℕ) → at ≡ (tail g + j) % 2 ^ w → tail g + j < g .done + cap
+    pub offers : (fill : ℕ) (hand : List ℕ) (pl pl′ : Place) (at j t : ℕ) → at ≡ (tail g + j) % 2 ^ w → tail g + j < g .completed + cap
         → waits pl ≡ j → waits pl′ ≡ j + 1
-        → handOf cap s pl ≡ [] → handOf cap (set s (at % cap) t) pl′ ≡ [] → ((y : ℕ) → byPlace p pl y .holds ≡ false)
+        → handIn cap s pl ≡ [] → handIn cap (set s (at % cap) t) pl′ ≡ [] → ((y : ℕ) → byPlace p pl y .holds ≡ false)
         → ((y : ℕ) → byPlace p pl′ y .holds ≡ false)
         → sourceOf p pl′ ≡ sourceOf p pl → ((fm : ℕ) (g₂ : Nums) (l₂ : Lists) → BkF w p fm items pl′ from g₂ l₂)
         → ((g₂ : Nums) → Still w pl′ g₂)
         → OwnF w fill items hand pl k cap s g l → OwnP w fill items pl′ k cap (set s (at % cap) t) g
         → OwnNext w p fill items hand from k cap s g l d pl (shows (wordsOf w k cap g) (set s (at % cap) t) nothingSeen)
-        (record { place = pl′; drain = d; answer = A.pending; deed = E.offered t })
+        (record { place = pl′; drain = d; answer = Answer.Pending; change = Change.Offered t })
     unfolding offer can
     offers fill hand pl pl′ at j t e lt ej ej′ eh eh′ n n′ sr b st o f =
         let es : at % cap ≡ (tail g + j) % cap = slot-of w k i (tail g + j) e in
@@ -227,7 +236,7 @@ module _ (w p : ℕ) (items : List ℕ) (from k : Kind) {cap : ℕ} {s : List �
             joins = joins-offer cap (i .cap-pos) c t;
             cap-pos = i .cap-pos;
             cap-fits = i .cap-fits;
-            cap-div = i .cap-div;
+            cap-pow = i .cap-pow;
             free = i .free;
             shut = i .shut;
             part = i .part;
@@ -251,18 +260,18 @@ module _ (w p : ℕ) (items : List ℕ) (from k : Kind) {cap : ℕ} {s : List �
           moved-s = omega arith;
           still = λ _. refl;
           still-n = st;
-          single = tt;
+          single = refl;
           can-s = eq-eqb p p refl;
           why = tt;
         }
 
     -- j tokens wait past the tail: the store lets them in (also none)
-    pub stores : (fill : ℕ) (hand : List ℕ) (pl : Place) (v j : ℕ) (a : Answer) → named a ≡ [] → Why (fill ≡ cap) (l .resting ≡ []) ⊥ ⊥ a
-        → v ≡ (g .pushed + j) % 2 ^ w → tail g + j ≤ g .done + cap
-        → waits pl ≡ j → handOf cap s pl ≡ [] → ((y : ℕ) → byPlace p pl y .holds ≡ false) → sourceOf p pl ≡ p
+    pub stores : (fill : ℕ) (hand : List ℕ) (pl : Place) (v j : ℕ) (a : Answer) → handedOut a ≡ [] → Why (fill ≡ cap) (l .resting ≡ []) ⊥ ⊥ a
+        → v ≡ (g .pushed + j) % 2 ^ w → tail g + j ≤ g .completed + cap
+        → waits pl ≡ j → handIn cap s pl ≡ [] → ((y : ℕ) → byPlace p pl y .holds ≡ false) → sourceOf p pl ≡ p
         → OwnF w fill items hand pl k cap s g l
-        → OwnNext w p fill items hand from k cap s g l d pl (shows (withCount (wordsOf w k cap g) v) s nothingSeen)
-        (record { place = P.idle; drain = d; answer = a; deed = E.accepted })
+        → OwnNext w p fill items hand from k cap s g l d pl (shows (withPushes (wordsOf w k cap g) v) s nothingSeen)
+        (record { place = Place.Idle; drain = d; answer = a; change = Change.Accepted })
     unfolding more accept can
     stores fill hand pl v j a bare y e le ej eh n sr o = record {
       g′ = more j g;
@@ -272,7 +281,7 @@ module _ (w p : ℕ) (items : List ℕ) (from k : Kind) {cap : ℕ} {s : List �
         joins = joins-accept cap (i .cap-pos) (i .joins) j (o .wait-is ∙ ap (tokens cap s (tail g)) ej) le;
         cap-pos = i .cap-pos;
         cap-fits = i .cap-fits;
-        cap-div = i .cap-div;
+        cap-pow = i .cap-pow;
         free = i .free;
         shut = i .shut;
         part = part-more k g j (i .part);
@@ -289,7 +298,7 @@ module _ (w p : ℕ) (items : List ℕ) (from k : Kind) {cap : ℕ} {s : List �
       moved-s = omega arith;
       still = λ _. refl;
       still-n = λ g₂. tt;
-      single = tt;
+      single = refl;
       can-s = eq-eqb p p refl;
       why = y;
     }

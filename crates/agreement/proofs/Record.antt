@@ -5,22 +5,31 @@ use mathlib.Core.List.{List}
 use Prim.Native.Nat.{ℕ, _+_, _≤_, _<_}
 use native.Mathlib.Omega.{arith}
 use lib.ListN.{length, length-set}
-use Rattle.tables.specs.Rule.{lifo, Mark}
-use Rattle.tables.specs.Place as P
-use Rattle.tables.specs.Place.{Place}
-use Rattle.tables.specs.Machine.{Queue, Party, Machine, idleParty, zeroQueue, partyAt, queueAt, baseOf, stretch, restretched}
+use Rattle.tables.specs.declared.access.Context.{Context}
+use Rattle.tables.specs.declared.access.Next.{Next}
+use Rattle.tables.specs.declared.access.Whose.{Whose}
+use Rattle.tables.specs.declared.access.Whose.the-variants as Whose
+use Rattle.tables.specs.declared.call.Mark.{Mark}
+use Rattle.tables.specs.declared.state.Kind.the-variants as Kind
+use Rattle.tables.specs.declared.state.Machine.{Machine}
+use Rattle.tables.specs.declared.state.Party.{Party}
+use Rattle.tables.specs.declared.state.Queue.{Queue}
+use Rattle.tables.specs.declared.place.Place.{Place}
+use Rattle.tables.specs.declared.place.Place.the-variants as Place
+use Rattle.tables.specs.Machine.{idleParty, zeroQueue, partyAt, queueAt, baseOf, stretch, restretched}
 use Rattle.tables.specs.Access.{Accessed, perform}
-use Rattle.tables.specs.Row.{Sight, Next, Row, Whose, mine, theirs}
+use Rattle.tables.specs.Row.{Row}
 use Rattle.tables.specs.Tables.{rowOf, sourceOf}
 use Rattle.tables.specs.Step as S
-use Rattle.tables.specs.Step.{Outcome, kindAt, placeAt, sourceAt, rowAt, site, siteAt, isWeak, accessAt, nextAt, effectOf, stored, taken}
+use Rattle.tables.specs.Effect.{effectOf}
+use Rattle.tables.specs.Step.{Outcome, kindAt, placeAt, sourceAt, rowAt, site, siteAt, isWeak, accessAt, nextAt, stored, taken}
 use Rattle.tables.specs.Lists.{update, slotsAt}
-use Rattle.tables.proofs.Access.{Kept, perform-keeps}
+use Rattle.tables.proofs.Performed.{Kept, perform-keeps}
 use Rattle.tables.proofs.Bases.{base-same, base-within, stretch-back, stretch-other, restretched-length}
 use Rattle.tables.proofs.Updates.{update-elim, update-same, update-other, list-update}
 use Rattle.agreement.proofs.OwnLifo.{did}
 use Rattle.agreement.proofs.Cells.{Cell, Member, words, Ran}
-use Rattle.agreement.proofs.Turn.{sightAt}
+use Rattle.agreement.proofs.Turn.{contextAt}
 
 pub record Fits (w : ℕ) (m : Machine) (xs : List ℕ) (cells : ℕ → Cell) (members : ℕ → Member) : Type 0 where
   pub q-are : (x : ℕ) → x < m .parties → queueAt m x ≡ words w (cells x)
@@ -34,7 +43,7 @@ pub record Fits (w : ℕ) (m : Machine) (xs : List ℕ) (cells : ℕ → Cell) (
 module _ (w : ℕ) (m : Machine) (xs : List ℕ) {cells : ℕ → Cell} {members : ℕ
     → Member} (f : Fits w m xs cells members) (p : ℕ) (pn : p < m .parties) (mark : Mark) where
   abbrev pub rowG : Row
-  rowG = rowOf w (sightAt cells members p (members p .pl) mark) (members p .pl)
+  rowG = rowOf w (contextAt cells members p (members p .pl) mark) (members p .pl)
 
   abbrev pub siteG : ℕ
   siteG = site (rowG .whose) p (sourceOf p (members p .pl))
@@ -54,8 +63,8 @@ module _ (w : ℕ) (m : Machine) (xs : List ℕ) {cells : ℕ → Cell} {members
   pub queue-is : (x : ℕ) → x < m .parties → kindAt m x ≡ cells x .kind
   queue-is x lt = ap (λ (q : Queue). q .kind) (f .q-are x lt)
 
-  sight-is : S.sightOf m p mark ≡ sightAt cells members p (members p .pl) mark
-  sight-is =
+  context-is : S.contextOf m p mark ≡ contextAt cells members p (members p .pl) mark
+  context-is =
       let ek = queue-is p pn in
       let ec = ap (λ (q : Queue). q .capacity) (f .q-are p pn) in
       let ef = ap (kindAt m) source-is ∙ queue-is (sourceOf p (members p .pl)) (f .sources p pn) in
@@ -63,14 +72,14 @@ module _ (w : ℕ) (m : Machine) (xs : List ℕ) {cells : ℕ → Cell} {members
       λ i. record { kind = ek i; capacity = ec i; from = ef i; drain = ed i; mark = mark }
 
   row-is : rowAt w m p mark ≡ rowG
-  row-is = ap₂ (λ (s : Sight) (z : Place). rowOf w s z) sight-is place-is
+  row-is = ap₂ (λ (s : Context) (z : Place). rowOf w s z) context-is place-is
 
   site-is : siteAt w m p mark ≡ siteG
   site-is = ap₂ (λ (r : Row) (y : ℕ). site (r .whose) p y) row-is source-is
 
   site-lt : (h : Whose) → site h p (sourceOf p (members p .pl)) < m .parties
-  site-lt mine = pn
-  site-lt theirs = f .sources p pn
+  site-lt Whose.Own = pn
+  site-lt Whose.Source = f .sources p pn
 
   pub site-in : siteG < m .parties
   site-in = site-lt (rowG .whose)
@@ -92,7 +101,7 @@ module _ (w : ℕ) (m : Machine) (xs : List ℕ) {cells : ℕ → Cell} {members
     machine = stored m p siteG nextG (didG .queue);
     items = restretched (baseOf siteG (m .queue)) (cells siteG .cap) (didG .slots) xs;
     answer = nextG .answer;
-    effect = effectOf p siteG (sourceOf p (members p .pl)) (nextG .deed);
+    effect = effectOf p siteG (sourceOf p (members p .pl)) (nextG .change);
     refusal = 0;
   }
 
@@ -104,14 +113,14 @@ module _ (w : ℕ) (m : Machine) (xs : List ℕ) {cells : ℕ → Cell} {members
         machine = stored m p (site-is i) (next-is i) (access-is i .queue);
         items = restretched (baseOf (site-is i) (m .queue)) (ec i) (access-is i .slots) xs;
         answer = next-is i .answer;
-        effect = effectOf p (site-is i) (source-is i) (next-is i .deed);
+        effect = effectOf p (site-is i) (source-is i) (next-is i .change);
         refusal = 0;
       }
 
   -- ---- the tables after it
 
   queues : (y : ℕ) → queueAt (takenG .machine) y ≡ update (queueAt m) siteG (didG .queue) y
-  queues y = list-update (zeroQueue lifo) (m .queue) siteG (didG .queue) (omega (arith, site-in, f .long-q)) y
+  queues y = list-update (zeroQueue Kind.Lifo) (m .queue) siteG (didG .queue) (omega (arith, site-in, f .long-q)) y
 
   kept : Kept (words w (cells siteG)) (cells siteG .s) didG
   kept = perform-keeps (words w (cells siteG)) (cells siteG .s) (rowG .access) (isWeak mark)
@@ -197,6 +206,6 @@ module _ (w : ℕ) (m : Machine) (xs : List ℕ) {cells : ℕ → Cell} {members
             ∙ update-same (λ (z : ℕ). words w (cells z)) siteG (didG .queue)))
             (λ ne. f .q-are y lt ∙ sym (update-other (λ (z : ℕ). words w (cells z)) siteG (didG .queue) y ne))
 
-        goes : (nextG .place ≡ P.idle) ⊎ (sourceOf p (nextG .place) ≡ sourceOf p (members p .pl)) → sourceOf p (nextG .place) < m .parties
+        goes : (nextG .place ≡ Place.Idle) ⊎ (sourceOf p (nextG .place) ≡ sourceOf p (members p .pl)) → sourceOf p (nextG .place) < m .parties
         goes (inl e) = subst (λ (v : Place). sourceOf p v < m .parties) (sym e) pn
         goes (inr e) = subst (λ (q : ℕ). q < m .parties) (sym e) (f .sources p pn)

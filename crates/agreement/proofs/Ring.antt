@@ -1,13 +1,23 @@
--- What the slots show: the n tokens from a position on.
+-- What the slots show: the n tokens from a position on, by true positions, which do not turn over; and that a queue's words show the same,
+-- since its capacity divides 2 ^ w, so that a position and its word share a slot.
 use mathlib.Core.Path.{_≡_, refl, sym, ap, ap₂, _∙_}
+use mathlib.Core.Bool.{true}
 use mathlib.Core.List.{List, [], _∷_, _++_}
 use Prim.Native.Nat.{ℕ, zero, suc, _+_, _%_, _≤_, _<_}
-use native.Mathlib.Nat.{mod-lt, suc-mod, suc-add, zero-add, add-zero}
+use native.Mathlib.Numerals.{add-one}
+use native.Mathlib.Nat.{mod-lt, mod-mod-of-dvd, suc-mod, suc-add, zero-add, add-zero}
 use native.Mathlib.Omega.{arith}
 use lib.ListN.{length, getD, set}
 use lib.Seq.{getD-set-same, getD-set-other}
-use Rattle.tables.specs.Lists.{tokens}
+use Rattle.words.specs.Word.{plus, powBelow}
+use Rattle.words.proofs.Powers.{power-divides}
+use Rattle.tables.specs.Lists as L
+use Rattle.tables.proofs.Bools.{pick-yes}
 use Rattle.agreement.proofs.Wrap.{sub-same}
+
+unfoldable pub tokens : (capacity : ℕ) → List ℕ → (at n : ℕ) → List ℕ
+tokens cap slots at zero = []
+tokens cap slots at (suc n) = getD slots (at % cap) 0 ∷ tokens cap slots (suc at) n
 
 unfoldable pub cell : ℕ → List ℕ → ℕ → ℕ
 cell cap s p = getD s (p % cap) 0
@@ -70,3 +80,12 @@ module _ (cap : ℕ) where
   tokens-cong s h k (suc n) e =
       ap₂ (λ (i : ℕ) (l : List ℕ). getD s i 0 ∷ l) e (tokens-cong s (suc h) (suc k) n (suc-mod h cap ∙ ap (λ (x : ℕ). suc x % cap) e
       ∙ sym (suc-mod k cap)))
+
+  -- what a queue's words show
+  pub tokens-shown : (w : ℕ) → powBelow w cap ≡ true → (s : List ℕ) (at n : ℕ) → L.tokens w cap s at n ≡ tokens cap s at n
+  unfolding tokens L.tokens
+  tokens-shown w ok s at zero = refl
+  tokens-shown w ok s at (suc n) =
+      ap₂ (λ (t : ℕ) (l : List ℕ). t ∷ l) (pick-yes (powBelow w cap) (getD s (at % cap) 0) 0 ok)
+      (tokens-shown w ok s (plus w at 1) n
+      ∙ tokens-cong s (plus w at 1) (suc at) n (mod-mod-of-dvd cap (at + 1) (power-divides w cap ok) ∙ ap (λ (x : ℕ). x % cap) (add-one at)))

@@ -2,21 +2,24 @@
 -- what the table says.
 use mathlib.Core.Path.{_≡_, refl, ap}
 use mathlib.Core.Bool.{Bool, true, false}
-use mathlib.Core.List.{List, [], _∷_}
+use mathlib.Core.List.{List, [], _∷_, _++_}
 use Prim.Native.Nat.{ℕ}
 use native.Mathlib.Omega.{arith}
-use Rattle.words.specs.Word.{doubled, powBelow}
-use Rattle.tables.specs.Machine.{baseOf}
-use Rattle.tables.specs.Answer as A
-use Rattle.tables.specs.Answer.{Answer}
-use Rattle.tables.specs.Step.{opening, begin, step, alone, sound, soundTo, openTo, overTo, closedQueues, idleParties, openRefusal, beginRefusal, stepRefusal, aloneRefusal, taken, runs, appended}
-use Rattle.tables.specs.Lists.{Entry, did, said, impossible, replay, does, can, update, offer, accept, pop, book, leave, arrive, shut, tokens, restingAt}
-use Rattle.tables.specs.Causes.{notes}
-use Rattle.agreement.specs.Statement.{kindsOf, replayed, runOf, repeated, Agrees}
+use lib.Dec.{eqb}
+use Rattle.words.specs.Word.{pick}
+use Rattle.tables.specs.declared.answer.Answer.{Answer}
+use Rattle.tables.specs.declared.answer.Answer.the-variants as Answer
+use Rattle.tables.specs.declared.call.Call.the-variants as Call
+use Rattle.tables.specs.declared.call.Rule.the-variants as Rule
+use Rattle.tables.specs.declared.state.Kind.the-variants as Kind
+use Rattle.tables.specs.Answer.{answerRow}
+use Rattle.tables.specs.Step.{opening}
+use Rattle.tables.specs.Lists.{Entry, did, said, impossible, replay, tokens, restingAt}
+use Rattle.agreement.specs.Statement.{Line, begins, Run, kindsOf, replayed, Agrees}
 use Rattle.agreement.proofs.Demand3.{agrees}
 use Rattle.agreement.proofs.Instances.{opened-fresh}
-use Rattle.agreement.proofs.Tests.{unit, less, both, all-below, bookTest, placeTest, premiseTest, repeatTest, lineTest, keepsTest}
-use Rattle.agreement.proofs.Schedules.{pushes, times, Sample, eight, startOf, endOf, Row, table, lapped}
+use Rattle.agreement.proofs.Tests.{all-below, keepsTest, machine-clauses, record-clauses, test-clauses}
+use Rattle.agreement.proofs.Schedules.{calls, pushes, times, Sample, eight, startOf, endOf, of, Row, table, lapped}
 
 -- What it comes to: the opening's refusal; positions within the width; the premise kept; resting of the two queues, by slots and
 -- counters; the tokens handed out and those dropped, by the lists; the answers other than pushed, in order.
@@ -30,23 +33,7 @@ pub record Found : Type 0 where
   pub answers : List Answer
 
 abbrev pub heard : Answer → List Answer → List Answer
-heard A.pushed l = l
-heard A.pending l = l
-heard (A.full t) l = A.full t ∷ l
-heard (A.popped t) l = A.popped t ∷ l
-heard A.none l = A.none ∷ l
-heard (A.extended k) l = A.extended k ∷ l
-heard (A.stolen k) l = A.stolen k ∷ l
-heard (A.taken t k) l = A.taken t k ∷ l
-heard (A.drain k) l = A.drain k ∷ l
-heard (A.item t) l = A.item t ∷ l
-heard A.done l = A.done ∷ l
-heard A.closed l = A.closed ∷ l
-heard A.busy l = A.busy ∷ l
-heard A.empty l = A.empty ∷ l
-heard (A.spare k) l = A.spare k ∷ l
-heard A.yes l = A.yes ∷ l
-heard A.no l = A.no ∷ l
+heard a l = pick (eqb (answerRow a .number) (answerRow Answer.Pushed .number)) l (a ∷ l)
 
 -- of a record, newest first
 unfoldable pub answersOf : List Entry → List Answer → List Answer
@@ -78,13 +65,17 @@ says x = record {
 
 -- ---- every row comes to what it says, and the theorem speaks of it
 
-unfoldable pub AllCome : List Row → Type 0
-AllCome [] = Unit {0}
-AllCome (x ∷ l) = (foundIn (x .sample) ≡ says x) × AllCome l
+unfoldable pub found : List Row → List Found
+found [] = []
+found (x ∷ l) = foundIn (x .sample) ∷ found l
 
-pub samples : AllCome table
-unfolding table AllCome pushes times endOf answersOf unit less both all-below bookTest placeTest premiseTest repeatTest lineTest keepsTest runOf repeated opening begin step alone sound soundTo openTo overTo closedQueues idleParties openRefusal beginRefusal stepRefusal aloneRefusal taken runs appended baseOf doubled powBelow notes replay does can update offer accept pop book leave arrive shut tokens restingAt
-samples = (refl, (refl, (refl, (refl, (refl, (refl, (refl, (refl, (refl, (refl, (refl, (refl, (refl, (refl, (refl, (refl, (refl, (refl, (refl, (refl, (refl, (refl, (refl, tt)))))))))))))))))))))))
+unfoldable pub said-by : List Row → List Found
+said-by [] = []
+said-by (x ∷ l) = says x ∷ said-by l
+
+pub samples : found table ≡ said-by table
+unfolding machine-clauses record-clauses test-clauses table found said-by pushes times endOf answersOf tokens restingAt
+samples = refl
 
 unfoldable pub AllAgree : List Row → Type 0
 AllAgree [] = Unit {0}
@@ -100,17 +91,34 @@ row-agrees x e =
     (all-below 3 (s .positions) .shows (ap (λ (f : Found). f .within) e)) (ap (λ (f : Found). f .refusal) e))
     (keepsTest 3 2 (startOf s) (s .schedule) .shows (ap (λ (f : Found). f .keeps) e))
 
-rows-agree : (l : List Row) → AllCome l → AllAgree l
-unfolding AllCome AllAgree
-rows-agree [] c = tt
-rows-agree (x ∷ l) c = (row-agrees x (c .0), rows-agree l (c .1))
+rows-agree : (l : List Row) → found l ≡ said-by l → AllAgree l
+unfolding found said-by AllAgree
+rows-agree [] e = tt
+rows-agree (x ∷ l) e = (row-agrees x (cc), rows-agree l (cc))
 
 pub samples-agree : AllAgree table
 samples-agree = rows-agree table samples
+
+-- ---- what a call has noted is cleared where its party's next call begins, and not where a begin is refused
+
+-- what is noted for party 1
+abbrev pub notesFor1 : Run → List ℕ
+notesFor1 r = r .notes .first 1 ∷ pick (r .notes .opened 1) 1 0 ∷ r .notes .fill 1 ∷ []
+
+-- party 1 was busy: one token booked on its source at its first load, a booking open there, two tokens at its destination
+abbrev pub wasBusy : List Line → Sample
+wasBusy s =
+    of Kind.Lifo
+    (pushes 0 (1 ∷ []) ++ (pushes 1 (2 ∷ 3 ∷ []) ++ (calls 0 (Call.Drain Rule.All) ++ (calls 1 (Call.Steal 0 Rule.All) ++ s))))
+
+pub cleared : (notesFor1 (endOf (wasBusy [])) ≡ 1 ∷ 1 ∷ 2 ∷ []) × (notesFor1 (endOf (wasBusy (begins 1 (Call.Steal 2 Rule.All) ∷ []))) ≡ 1 ∷ 1 ∷ 2 ∷ [])
+    × (notesFor1 (endOf (wasBusy (begins 1 Call.Pop ∷ []))) ≡ 0 ∷ 0 ∷ 0 ∷ [])
+unfolding machine-clauses record-clauses pushes endOf
+cleared = (refl, refl, refl)
 
 -- ---- without the premise the claim fails: the lists cannot do what this run records
 
 pub lapped-fails : (keepsTest 3 2 (startOf lapped) (lapped .schedule) .passed ≡ false)
     × (replay (kindsOf (endOf lapped .machine)) (endOf lapped .record′) ≡ impossible)
-unfolding pushes times endOf unit less both all-below bookTest placeTest premiseTest repeatTest lineTest keepsTest runOf repeated opening begin step alone sound soundTo openTo overTo closedQueues idleParties openRefusal beginRefusal stepRefusal aloneRefusal taken runs appended baseOf doubled powBelow notes replay does can update offer accept pop book leave arrive shut tokens restingAt
+unfolding machine-clauses record-clauses test-clauses pushes times endOf
 lapped-fails = (refl, refl)

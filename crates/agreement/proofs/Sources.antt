@@ -1,4 +1,4 @@
--- A step on the source, framed: it keeps the tables' invariant.
+-- A step on the source, framed: it keeps the tables' invariant, since what the other roles know stands (Stable).
 use mathlib.Core.Path.{_≡_, refl, sym, ap, subst, _∙_}
 use mathlib.Core.Logic.{_⊎_, inl, inr}
 use mathlib.Core.Bool.{true, false}
@@ -6,14 +6,15 @@ use mathlib.Core.List.{List}
 use Prim.Native.Nat.{ℕ, _<_}
 use native.Mathlib.Omega.{arith}
 use Rattle.words.specs.Word.{pick}
-use Rattle.tables.specs.Rule.{Mark}
-use Rattle.tables.specs.Place as P
-use Rattle.tables.specs.Place.{Place}
-use Rattle.tables.specs.Machine.{Drain}
+use Rattle.tables.specs.declared.access.Next.{Next}
+use Rattle.tables.specs.declared.call.Mark.{Mark}
+use Rattle.tables.specs.declared.state.Drain.{Drain}
+use Rattle.tables.specs.declared.place.Place.{Place}
+use Rattle.tables.specs.declared.place.Place.the-variants as Place
 use Rattle.tables.specs.Access.{Accessed}
-use Rattle.tables.specs.Row.{Next}
 use Rattle.tables.specs.Tables.{sourceOf}
-use Rattle.tables.specs.Lists.{party, update, named, inFront}
+use Rattle.tables.specs.Answer.{answerRow, handedOut}
+use Rattle.tables.specs.Lists.{party, update, inFront}
 use Rattle.tables.specs.Causes.{isFirstLoad, isHeadLoad}
 use Rattle.tables.proofs.Updates.{update-elim, update-same}
 use Rattle.agreement.proofs.Nums.{Who, noone, call, drain, holderOf}
@@ -32,9 +33,9 @@ module _ (w n : ℕ) {cells : ℕ → Cell} {members : ℕ → Member} (inv : MI
       (cells x .s) (cells x .g) (cells x .l) (members p .drain) pl mark o nx
       → isHeadLoad pl ≡ false → Ran w n cells members p pl mark x o nx
   src-go me em o nx t nh =
-      ran-one w n cells members p pl mark x o nx c₂ (itemsAfter (nx .deed) (cells x .l) (members p .items))
+      ran-one w n cells members p pl mark x o nx c₂ (itemsAfter (nx .change) (cells x .l) (members p .items))
       (frame Cell Member (Ok w n) (src w n) (Own w n) (Bkr w n) (Drn w n) (Claim w n) inv p x m₂ c₂ (t .ok)
-      (rw nh (subst (λ (h : List ℕ). OwnF w (members p .fill) (itemsAfter (nx .deed) (cells x .l) (members p .items))
+      (rw nh (subst (λ (h : List ℕ). OwnF w (members p .fill) (itemsAfter (nx .change) (cells x .l) (members p .items))
       (handOver (nx .answer) h) (nx .place) (update cells x c₂ p .kind) (update cells x c₂ p .cap) (update cells x c₂ p .s)
       (update cells x c₂ p .g) (update cells x c₂ p .l))
       (sym (t .hand-s (members p .hand))) (own′ .1)))
@@ -57,12 +58,12 @@ module _ (w n : ℕ) {cells : ℕ → Cell} {members : ℕ → Member} (inv : MI
       (λ r ne f h. f (ap holderOf (t .who-new (t .g′ .who) (λ z. no-party r (sym (ap holderOf z) ∙ h)) (other p r me (t .g′ .who) em h ne)
       refl) ∙ h)))
       (sym (t .q-is)) (sym (t .slots-s)) refl (t .single) (t .moved-s) (t .rb .start-s) (t .still) (still′ (t .src-s)) (t .src-s)
-      (subst (λ (h : List ℕ). inFront (named (nx .answer)) h ≡ true) (sym (t .hand-s (members p .hand))) (own′ .0)) (t .can-s)
+      (subst (λ (h : List ℕ). inFront (handedOut (nx .answer)) h ≡ true) (sym (t .hand-s (members p .hand))) (own′ .0)) (t .can-s)
       (subst (λ (y : ℕ). Causes w (fill₁ w n cells members p pl mark x o nx) pl (cells p) (cells y) (update cells x c₂ y .l) mark
       (nx .answer)) (sym ex)
       (subst (λ (c : Cell). Causes w (fill₁ w n cells members p pl mark x o nx) pl (cells p) (cells x) (c .l) mark (nx .answer))
       (sym (update-same cells x c₂))
-      (why-map (nx .answer) (λ a. absurd a) (λ a. absurd a) (λ a. a) (λ a. a) (t .why))))
+      (why-map (answerRow (nx .answer) .reason) (λ a. absurd a) (λ a. absurd a) (λ a. a) (λ a. a) (t .why))))
     where
       c₂ : Cell
       c₂ = record {
@@ -70,17 +71,17 @@ module _ (w n : ℕ) {cells : ℕ → Cell} {members : ℕ → Member} (inv : MI
         cap = cells x .cap;
         s = cells x .s;
         g = t .g′;
-        l = changed (cells x .kind) p (nx .deed) (cells x .l);
+        l = changed (cells x .kind) p (nx .change) (cells x .l);
       }
 
       m₂ : Member
-      m₂ = member₁ w n cells members p pl mark x o nx (itemsAfter (nx .deed) (cells x .l) (members p .items))
+      m₂ = member₁ w n cells members p pl mark x o nx (itemsAfter (nx .change) (cells x .l) (members p .items))
 
       no-party : (r : ℕ) → holderOf noone ≡ party r → ⊥
       no-party r e = let z : _≡_ {A = ℕ} 0 1 = cc in omega arith
 
-      own′ : (inFront (named (nx .answer)) (members p .hand) ≡ true)
-          × OwnF w (members p .fill) (itemsAfter (nx .deed) (cells x .l) (members p .items)) (handOver (nx .answer) (members p .hand))
+      own′ : (inFront (handedOut (nx .answer)) (members p .hand) ≡ true)
+          × OwnF w (members p .fill) (itemsAfter (nx .change) (cells x .l) (members p .items)) (handOver (nx .answer) (members p .hand))
           (nx .place) (update cells x c₂ p .kind) (update cells x c₂ p .cap) (update cells x c₂ p .s) (update cells x c₂ p .g)
           (update cells x c₂ p .l)
       own′ =
@@ -95,20 +96,20 @@ module _ (w n : ℕ) {cells : ℕ → Cell} {members : ℕ → Member} (inv : MI
       at-x : sourceOf p (nx .place) ≡ sourceOf p pl → update cells x c₂ (sourceOf p (nx .place)) ≡ c₂
       at-x e = ap (update cells x c₂) (e ∙ ex) ∙ update-same cells x c₂
 
-      bkr′ : (nx .place ≡ P.idle) ⊎ (sourceOf p (nx .place) ≡ sourceOf p pl) → Bkr w n p m₂ (update cells x c₂ (sourceOf p (nx .place)))
+      bkr′ : (nx .place ≡ Place.Idle) ⊎ (sourceOf p (nx .place) ≡ sourceOf p pl) → Bkr w n p m₂ (update cells x c₂ (sourceOf p (nx .place)))
       bkr′ (inl e) =
-          subst (λ (z : Place). BkF w p (fm₁ w n cells members p pl mark x o nx) (itemsAfter (nx .deed) (cells x .l) (members p .items)) z
+          subst (λ (z : Place). BkF w p (fm₁ w n cells members p pl mark x o nx) (itemsAfter (nx .change) (cells x .l) (members p .items)) z
           (update cells x c₂ (sourceOf p (nx .place)) .kind) (update cells x c₂ (sourceOf p (nx .place)) .g)
           (update cells x c₂ (sourceOf p (nx .place)) .l))
           (sym e) tt
       bkr′ (inr e) =
-          subst (λ (c : Cell). BkF w p (fm₁ w n cells members p pl mark x o nx) (itemsAfter (nx .deed) (cells x .l) (members p .items))
+          subst (λ (c : Cell). BkF w p (fm₁ w n cells members p pl mark x o nx) (itemsAfter (nx .change) (cells x .l) (members p .items))
           (nx .place) (c .kind) (c .g) (c .l)) (sym (at-x e))
           (subst (λ (y : ℕ). BkF w p (pick (isFirstLoad pl) (cells y .g .moved) (members p .fm))
-          (itemsAfter (nx .deed) (cells x .l) (members p .items)) (nx .place) (cells x .kind) (t .g′)
-          (changed (cells x .kind) p (nx .deed) (cells x .l))) (sym ex) (t .bkr))
+          (itemsAfter (nx .change) (cells x .l) (members p .items)) (nx .place) (cells x .kind) (t .g′)
+          (changed (cells x .kind) p (nx .change) (cells x .l))) (sym ex) (t .bkr))
 
-      still′ : (nx .place ≡ P.idle) ⊎ (sourceOf p (nx .place) ≡ sourceOf p pl) → Still w pl (cells (sourceOf p pl) .g)
+      still′ : (nx .place ≡ Place.Idle) ⊎ (sourceOf p (nx .place) ≡ sourceOf p pl) → Still w pl (cells (sourceOf p pl) .g)
           → Still w (nx .place) (update cells x c₂ (sourceOf p (nx .place)) .g)
       still′ (inl e) a = subst (λ (z : Place). Still w z (update cells x c₂ (sourceOf p (nx .place)) .g)) (sym e) tt
       still′ (inr e) a =

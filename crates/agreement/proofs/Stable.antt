@@ -1,24 +1,35 @@
--- What is known at a place stands, whatever the other roles do.
+-- What is known at a place stands, whatever the other roles do: nobody else writes the owner's count, pops or slots, no counter goes back,
+-- and only the holder moves what is booked.
 use mathlib.Core.Path.{_≡_, sym, ap, _∙_}
 use mathlib.Core.List.{List}
 use Prim.Native.Nat.{ℕ, _+_, _%_, _^_}
 use native.Mathlib.Omega.{arith}
-use Rattle.tables.specs.Rule.{Kind}
-use Rattle.tables.specs.Errand as G
-use Rattle.tables.specs.Errand.{Goal, Trip}
-use Rattle.tables.specs.LifoPlace as L
-use Rattle.tables.specs.LifoPlace.{LifoPlace}
-use Rattle.tables.specs.FifoPlace as F
-use Rattle.tables.specs.FifoPlace.{FifoPlace}
-use Rattle.tables.specs.Place as P
-use Rattle.tables.specs.Place.{Place, OwnPlace, BookPlace, MovePlace, ClosePlace}
-use Rattle.tables.specs.Machine.{Drain}
+use Rattle.tables.specs.declared.state.Drain.{Drain}
+use Rattle.tables.specs.declared.state.Kind.{Kind}
+use Rattle.tables.specs.declared.place.BookPlace.{BookPlace}
+use Rattle.tables.specs.declared.place.BookPlace.the-variants as BookPlace
+use Rattle.tables.specs.declared.place.BookedTokens.{BookedTokens}
+use Rattle.tables.specs.declared.place.BookingCall.{BookingCall}
+use Rattle.tables.specs.declared.place.BookingCall.the-variants as BookingCall
+use Rattle.tables.specs.declared.place.ClosePlace.{ClosePlace}
+use Rattle.tables.specs.declared.place.ClosePlace.the-variants as ClosePlace
+use Rattle.tables.specs.declared.place.ClosingCall.the-variants as ClosingCall
+use Rattle.tables.specs.declared.place.FifoPlace.{FifoPlace}
+use Rattle.tables.specs.declared.place.FifoPlace.the-variants as FifoPlace
+use Rattle.tables.specs.declared.place.LifoPlace.{LifoPlace}
+use Rattle.tables.specs.declared.place.LifoPlace.the-variants as LifoPlace
+use Rattle.tables.specs.declared.place.MovePlace.{MovePlace}
+use Rattle.tables.specs.declared.place.MovePlace.the-variants as MovePlace
+use Rattle.tables.specs.declared.place.OwnPlace.{OwnPlace}
+use Rattle.tables.specs.declared.place.OwnPlace.the-variants as OwnPlace
+use Rattle.tables.specs.declared.place.Place.{Place}
+use Rattle.tables.specs.declared.place.Place.the-variants as Place
 use Rattle.tables.specs.Table.{limitOf}
 use Rattle.tables.specs.Lists.{Lists}
 use Rattle.agreement.proofs.Wrap.{pair}
 use Rattle.agreement.proofs.Nums.{Who, call, drain, Nums}
 use Rattle.agreement.proofs.Whole.{RO, RB, RH}
-use Rattle.agreement.proofs.Facts.{Into, PopB, OwnL, FPopB, OwnK, Ext, OwnO, OwnG, Carries, OwnM, OwnP, OwnF, handOf, Snap, Snap2, FSnap, BkB, Keeps, BkM, BkC, BkF, DrnF}
+use Rattle.agreement.proofs.Facts.{Into, PopB, OwnL, FPopB, OwnK, Ext, OwnO, OwnG, Carries, OwnM, OwnP, OwnF, handIn, Snap, Snap2, FSnap, BkB, Keeps, BkM, BkC, BkF, DrnF}
 
 module _ (w fill : ℕ) {s s′ : List ℕ} {g g′ : Nums} {l l′ : Lists} (r : RO s g l s′ g′ l′) where
   word-s : {x : ℕ} → x ≡ g .pushed % 2 ^ w → x ≡ g′ .pushed % 2 ^ w
@@ -41,12 +52,12 @@ module _ (w fill : ℕ) {s s′ : List ℕ} {g g′ : Nums} {l l′ : Lists} (r 
   }
 
   own-l : (cap : ℕ) (p : LifoPlace) (k : Kind) → OwnL w cap p k g → OwnL w cap p k g′
-  own-l cap (L.loadCount j) k a = a
-  own-l cap (L.loadPacked j n) k a = (a .0, word-s (a .1))
-  own-l cap (L.loadDone j n p) k a = (a .0, word-s (a .1), a .2 ∙ ap (λ (n : ℕ). n % 2 ^ w) (sym (r .pops-s)))
-  own-l cap L.popPacked k a = a
-  own-l cap (L.popCount p) k a = (a .0, popB-s (a .1))
-  own-l cap (L.popCas p t) k a = (
+  own-l cap (LifoPlace.LoadPushes j) k a = a
+  own-l cap (LifoPlace.LoadPacked j n) k a = (a .0, word-s (a .1))
+  own-l cap (LifoPlace.LoadCompleted j n p) k a = (a .0, word-s (a .1), a .2 ∙ ap (λ (n : ℕ). n % 2 ^ w) (sym (r .pops-s)))
+  own-l cap LifoPlace.PopPacked k a = a
+  own-l cap (LifoPlace.PopPushes p) k a = (a .0, popB-s (a .1))
+  own-l cap (LifoPlace.PopCas p t) k a = (
     a .0,
     record {
       seen = popB-s (a .1 .seen);
@@ -55,8 +66,8 @@ module _ (w fill : ℕ) {s s′ : List ℕ} {g g′ : Nums} {l l′ : Lists} (r 
       some = a .1 .some;
     },
   )
-  own-l cap L.emptyCount k a = a
-  own-l cap (L.emptyPacked n) k a = a
+  own-l cap LifoPlace.EmptyPushes k a = a
+  own-l cap (LifoPlace.EmptyPacked n) k a = a
 
   unfoldable fpop-s : {cap p : ℕ} → FPopB w cap g p → FPopB w cap g′ p
   fpop-s a = record {
@@ -71,8 +82,8 @@ module _ (w fill : ℕ) {s s′ : List ℕ} {g g′ : Nums} {l l′ : Lists} (r 
 
   own-k : (cap : ℕ) (p : FifoPlace) (k : Kind) → OwnK w fill cap p k g → OwnK w fill cap p k g′
   unfolding fpop-s
-  own-k cap (F.loadPacked f) k a = a
-  own-k cap (F.loadTail f p) k a = (
+  own-k cap (FifoPlace.LoadPacked f) k a = a
+  own-k cap (FifoPlace.LoadTail f p) k a = (
     a .0,
     record {
       sg = a .1 .sg;
@@ -82,13 +93,13 @@ module _ (w fill : ℕ) {s s′ : List ℕ} {g g′ : Nums} {l l′ : Lists} (r 
       fill-fits = a .1 .fill-fits;
     },
   )
-  own-k cap (F.destTail e) k a = a
-  own-k cap (F.destPacked e t) k a = (a .0, word-s (a .1))
-  own-k cap F.popPacked k a = a
-  own-k cap (F.popTail p) k a = (a .0, fpop-s (a .1))
-  own-k cap (F.popCas p) k a = (a .0, record { seen = fpop-s (a .1 .seen); some = λ z. a .1 .some (sym (r .tail-s) ∙ z) })
-  own-k cap F.emptyPacked k a = a
-  own-k cap (F.emptyTail p) k a = a
+  own-k cap (FifoPlace.DestTail e) k a = a
+  own-k cap (FifoPlace.DestPacked e t) k a = (a .0, word-s (a .1))
+  own-k cap FifoPlace.PopPacked k a = a
+  own-k cap (FifoPlace.PopTail p) k a = (a .0, fpop-s (a .1))
+  own-k cap (FifoPlace.PopCas p) k a = (a .0, record { seen = fpop-s (a .1 .seen); some = λ z. a .1 .some (sym (r .tail-s) ∙ z) })
+  own-k cap FifoPlace.EmptyPacked k a = a
+  own-k cap (FifoPlace.EmptyTail p) k a = a
 
   unfoldable ext-s : {cap pops at written : ℕ} → Ext w cap g pops at written → Ext w cap g′ pops at written
   ext-s {written = written} a = record {
@@ -101,26 +112,26 @@ module _ (w fill : ℕ) {s s′ : List ℕ} {g g′ : Nums} {l l′ : Lists} (r 
   }
 
   own-o : (cap : ℕ) (p : OwnPlace) → OwnO w cap p g → OwnO w cap p g′
-  own-o cap (P.pushWrite t word at) a = into-s a
-  own-o cap (P.pushStore word) a = (word-s (a .0), omega (arith, a .1, r .tail-s, r .done-up))
-  own-o cap (P.extendMore pops at limit written) a = record {
+  own-o cap (OwnPlace.PushWrite t word at) a = into-s a
+  own-o cap (OwnPlace.PushStore word) a = (word-s (a .0), omega (arith, a .1, r .tail-s, r .done-up))
+  own-o cap (OwnPlace.ExtendMore pops at limit written) a = record {
     ext = ext-s (a .ext);
     dg = a .dg;
     limit-is = a .limit-is;
     old = omega (arith, a .old, r .done-up);
     below = omega (arith, a .below, r .tail-s);
   }
-  own-o cap (P.extendStore pops at written) a = ext-s a
-  own-o cap (P.popRead at) a = tt
-  own-o cap P.nextItem a = tt
-  own-o cap P.dropItem a = tt
+  own-o cap (OwnPlace.ExtendStore pops at written) a = ext-s a
+  own-o cap (OwnPlace.PopRead at) a = tt
+  own-o cap OwnPlace.NextItem a = tt
+  own-o cap OwnPlace.DropItem a = tt
 
-  own-g : (cap : ℕ) (h : Goal) → OwnG w fill cap h g → OwnG w fill cap h g′
-  own-g cap (G.haul e d) a = (into-s (a .0), a .1)
-  own-g cap (G.drain x) a = tt
+  own-g : (cap : ℕ) (h : BookingCall) → OwnG w fill cap h g → OwnG w fill cap h g′
+  own-g cap (BookingCall.Transfer e d) a = (into-s (a .0), a .1)
+  own-g cap (BookingCall.Drain x) a = tt
 
   module _ (items : List ℕ) where
-    carries-s : {cap j : ℕ} {t : Trip} → Carries w items cap s g t j → Carries w items cap s′ g′ t j
+    carries-s : {cap j : ℕ} {t : BookedTokens} → Carries w items cap s g t j → Carries w items cap s′ g′ t j
     carries-s a = record {
       into = into-s (a .into);
       some = a .some;
@@ -130,24 +141,24 @@ module _ (w fill : ℕ) {s s′ : List ℕ} {g g′ : Nums} {l l′ : Lists} (r 
     }
 
     own-m : (cap : ℕ) (p : MovePlace) → OwnM w items cap s p g → OwnM w items cap s′ p g′
-    own-m cap (P.readSlot t j) a = (a .0, carries-s (a .1))
-    own-m cap (P.writeSlot t j x) a = (a .0, a .1, carries-s (a .2))
-    own-m cap (P.land t last) a = (a .0, carries-s (a .1))
+    own-m cap (MovePlace.ReadSlot t j) a = (a .0, carries-s (a .1))
+    own-m cap (MovePlace.WriteSlot t j x) a = (a .0, a .1, carries-s (a .2))
+    own-m cap (MovePlace.Land t last) a = (a .0, carries-s (a .1))
 
     own-p : (pl : Place) (k : Kind) (cap : ℕ) → OwnP w fill items pl k cap s g → OwnP w fill items pl k cap s′ g′
-    own-p P.idle k cap a = tt
-    own-p (P.lifo p) k cap a = own-l cap p k a
-    own-p (P.fifo p) k cap a = own-k cap p k a
-    own-p (P.own p) k cap a = own-o cap p a
-    own-p (P.book h p) k cap a = own-g cap h a
-    own-p (P.move p) k cap a = own-m cap p a
-    own-p (P.close e p) k cap a = tt
+    own-p Place.Idle k cap a = tt
+    own-p (Place.Lifo p) k cap a = own-l cap p k a
+    own-p (Place.Fifo p) k cap a = own-k cap p k a
+    own-p (Place.Own p) k cap a = own-o cap p a
+    own-p (Place.Book h p) k cap a = own-g cap h a
+    own-p (Place.Move p) k cap a = own-m cap p a
+    own-p (Place.Close e p) k cap a = tt
 
     pub own-stable : (hand : List ℕ) (pl : Place) (k : Kind) (cap : ℕ) → OwnF w fill items hand pl k cap s g l
         → OwnF w fill items hand pl k cap s′ g′ l′
     own-stable hand pl k cap a = record {
       wait-is = rw (r .slots-s, r .tail-s) (r .wait-s ∙ a .wait-is);
-      hand-is = a .hand-is ∙ ap (λ (z : List ℕ). handOf cap z pl) (sym (r .slots-s));
+      hand-is = a .hand-is ∙ ap (λ (z : List ℕ). handIn cap z pl) (sym (r .slots-s));
       at = own-p pl k cap (a .at);
     }
 
@@ -176,10 +187,10 @@ module _ (w fm : ℕ) {g g′ : Nums} (r : RB g g′) where
 
   bkb-s : (limit : ℕ) (b : BookPlace) (k : Kind) → BkB w fm limit b k g → BkB w fm limit b k g′
   unfolding snap-s snap2-s fsnap-s
-  bkb-s limit P.lifoPacked k a = a
-  bkb-s limit (P.lifoDone x) k a = (a .0, snap-s (a .1))
-  bkb-s limit (P.lifoCount x d) k a = (a .0, snap2-s (a .1))
-  bkb-s limit (P.lifoCas x d n) k a = (
+  bkb-s limit BookPlace.LifoPacked k a = a
+  bkb-s limit (BookPlace.LifoCompleted x) k a = (a .0, snap-s (a .1))
+  bkb-s limit (BookPlace.LifoPushes x d) k a = (a .0, snap2-s (a .1))
+  bkb-s limit (BookPlace.LifoCas x d n) k a = (
     a .0,
     record {
       snap = snap2-s (a .1 .snap);
@@ -188,9 +199,9 @@ module _ (w fm : ℕ) {g g′ : Nums} (r : RB g g′) where
       enough = omega (arith, a .1 .enough, r .push-up);
     },
   )
-  bkb-s limit P.fifoPacked k a = a
-  bkb-s limit (P.fifoTail x) k a = (a .0, fsnap-s (a .1))
-  bkb-s limit (P.fifoCas x n) k a = (
+  bkb-s limit BookPlace.FifoPacked k a = a
+  bkb-s limit (BookPlace.FifoTail x) k a = (a .0, fsnap-s (a .1))
+  bkb-s limit (BookPlace.FifoCas x n) k a = (
     a .0,
     record {
       snap = fsnap-s (a .1 .snap);
@@ -201,7 +212,7 @@ module _ (w fm : ℕ) {g g′ : Nums} (r : RB g g′) where
   )
 
 module _ (w p fm : ℕ) {g g′ : Nums} {l l′ : Lists} (r : RB g g′) where
-  keeps-s : (me : Who) → (g .who ≡ me → RH g l g′ l′) → {items : List ℕ} {t : Trip} → Keeps w me items g l t → Keeps w me items g′ l′ t
+  keeps-s : (me : Who) → (g .who ≡ me → RH g l g′ l′) → {items : List ℕ} {t : BookedTokens} → Keeps w me items g l t → Keeps w me items g′ l′ t
   keeps-s me rh a =
       let h = rh (a .who-is) in
       record {
@@ -215,33 +226,33 @@ module _ (w p fm : ℕ) {g g′ : Nums} {l l′ : Lists} (r : RB g g′) where
       }
 
   bkm-s : (items : List ℕ) (x : MovePlace) → (g .who ≡ call p → RH g l g′ l′) → BkM w p items x g l → BkM w p items x g′ l′
-  bkm-s items (P.readSlot t j) rh a = keeps-s (call p) rh a
-  bkm-s items (P.writeSlot t j x) rh a = keeps-s (call p) rh a
-  bkm-s items (P.land t last) rh a = keeps-s (call p) rh a
+  bkm-s items (MovePlace.ReadSlot t j) rh a = keeps-s (call p) rh a
+  bkm-s items (MovePlace.WriteSlot t j x) rh a = keeps-s (call p) rh a
+  bkm-s items (MovePlace.Land t last) rh a = keeps-s (call p) rh a
 
   bkc-s : (me : Who) → (g .who ≡ me → RH g l g′ l′) → (c : ClosePlace) (k : Kind) → BkC w me c k g → BkC w me c k g′
-  bkc-s me rh (P.storeDone x) k a = let h = rh (a .1) in (
+  bkc-s me rh (ClosePlace.StoreCompleted x) k a = let h = rh (a .1) in (
     a .0,
     h .who-s ∙ a .1,
     h .left-s ∙ a .2,
     a .3
         ∙ ap (λ (n : ℕ). n % 2 ^ w) (omega (arith, h .done-s, h .taken-s, h .left-s)),
   )
-  bkc-s me rh P.loadHeads k a = let h = rh (a .1) in (a .0, h .who-s ∙ a .1, h .left-s ∙ a .2)
-  bkc-s me rh (P.casHeads x) k a = let h = rh (a .1) in (a .0, h .who-s ∙ a .1, h .left-s ∙ a .2)
+  bkc-s me rh ClosePlace.LoadHeads k a = let h = rh (a .1) in (a .0, h .who-s ∙ a .1, h .left-s ∙ a .2)
+  bkc-s me rh (ClosePlace.CasHeads x) k a = let h = rh (a .1) in (a .0, h .who-s ∙ a .1, h .left-s ∙ a .2)
 
   pub bkr-stable : (items : List ℕ) → (g .who ≡ call p → RH g l g′ l′) → (g .who ≡ drain p → RH g l g′ l′) → (pl : Place) (k : Kind)
       → BkF w p fm items pl k g l → BkF w p fm items pl k g′ l′
-  bkr-stable items rc rd P.idle k a = tt
-  bkr-stable items rc rd (P.lifo x) k a = tt
-  bkr-stable items rc rd (P.fifo x) k a = tt
-  bkr-stable items rc rd (P.own x) k a = tt
-  bkr-stable items rc rd (P.book h x) k a = bkb-s w fm r (limitOf w h) x k a
-  bkr-stable items rc rd (P.move x) k a = bkm-s items x rc a
-  bkr-stable items rc rd (P.close (G.stolen y n) x) k a = bkc-s (call p) rc x k a
-  bkr-stable items rc rd (P.close (G.taken y t n) x) k a = bkc-s (call p) rc x k a
-  bkr-stable items rc rd (P.close (G.item t) x) k a = bkc-s (drain p) rd x k a
-  bkr-stable items rc rd (P.close G.dropped x) k a = bkc-s (drain p) rd x k a
+  bkr-stable items rc rd Place.Idle k a = tt
+  bkr-stable items rc rd (Place.Lifo x) k a = tt
+  bkr-stable items rc rd (Place.Fifo x) k a = tt
+  bkr-stable items rc rd (Place.Own x) k a = tt
+  bkr-stable items rc rd (Place.Book h x) k a = bkb-s w fm r (limitOf w h) x k a
+  bkr-stable items rc rd (Place.Move x) k a = bkm-s items x rc a
+  bkr-stable items rc rd (Place.Close (ClosingCall.Steal y n) x) k a = bkc-s (call p) rc x k a
+  bkr-stable items rc rd (Place.Close (ClosingCall.Take y t n) x) k a = bkc-s (call p) rc x k a
+  bkr-stable items rc rd (Place.Close (ClosingCall.Next t) x) k a = bkc-s (drain p) rd x k a
+  bkr-stable items rc rd (Place.Close ClosingCall.Drop x) k a = bkc-s (drain p) rd x k a
 
 pub drn-stable : (w p : ℕ) {g g′ : Nums} {l l′ : Lists} (d : Drain) → (g .who ≡ drain p → RH g l g′ l′) → DrnF w p d g → DrnF w p d g′
 drn-stable w p d rh f ne =

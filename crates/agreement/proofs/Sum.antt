@@ -1,4 +1,5 @@
--- Demand 3's claim 3: every token offered stands in the lists, is in hand, was handed out or was dropped, as often as it was offered.
+-- Claim 3: every token offered stands in the lists, is in hand, was handed out or was dropped, as often as it was offered. An offer adds one;
+-- any other effect, and an answer, only moves tokens from one of these to another.
 use Prim.Native.Nat.{ℕ, zero, suc, _+_, _≤_, _<_}
 use mathlib.Core.Path.{_≡_, refl, sym, ap, subst, _∙_}
 use mathlib.Core.Bool.{Bool, true, false, not, true≢false}
@@ -8,14 +9,17 @@ use borrow.Author.Tests.{eqb-true, ltb-true, not-true}
 use lib.Dec.{eqb, leb, ltb}
 use lib.ListN.{length, take, drop, getD}
 use Rattle.words.specs.Word.{pick}
-use Rattle.tables.specs.Rule.{Kind}
-use Rattle.tables.specs.Answer as A
-use Rattle.tables.specs.Answer.{Answer}
-use Rattle.tables.specs.Effect as E
-use Rattle.tables.specs.Effect.{Deed}
+use Rattle.tables.specs.declared.answer.Answer.{Answer}
+use Rattle.tables.specs.declared.answer.Change.{Change}
+use Rattle.tables.specs.declared.answer.Change.the-variants as Change
+use Rattle.tables.specs.declared.answer.Values.{Values}
+use Rattle.tables.specs.declared.answer.Values.the-variants as Values
+use Rattle.tables.specs.declared.state.Kind.{Kind}
 use Rattle.tables.specs.Step.{andb}
-use Rattle.tables.specs.Lists.{Holder, nobody, party, isOpen, heldBy, Lists, Plain, nothingYet, update, offer, accept, popFrom, pop, book, leave, arrive, shut, onQueue, lands, does, isNil, can, named, handOut, inFront, Entry, did, said, Replayed, impossible, lists, replayEntry, replayFrom, replay}
-use Rattle.tables.proofs.Bools.{and-left, and-right}
+use Rattle.tables.specs.Answer.{answerRow, tokensOf, handedOut}
+use Rattle.tables.specs.Lists.{Holder, nobody, party, isOpen, heldBy, Lists, Plain, nothingYet, update, offer, accept, popFrom, pop, book, leave, arrive, shut, onQueue, lands}
+use Rattle.tables.specs.Lists.{does, isNil, can, handOut, inFront, Entry, did, said, Replayed, impossible, lists, replayEntry, replayFrom, replay}
+use Rattle.tables.proofs.Bools.{and-left, and-right, pick-if}
 use Rattle.tables.proofs.Updates.{update-if}
 use Rattle.agreement.specs.Counts.{one, count, standing, offers, offered}
 use Rattle.agreement.proofs.Tally.{count-append, count-one, count-none, count-next, in-offer, in-accept, in-pop, in-book, in-leave, in-arrive, in-shut, on-queue, on-hand, in-hand, drops-out}
@@ -48,12 +52,12 @@ module _ (t n : ℕ) (ks : ℕ → Kind) (p q : ℕ) (hp : p < n) (hq : q < n) (
   abbrev l : Lists
   l = a .queue q
 
-  pub total-does : (d : Deed) → can p q d l ≡ true → total t (does ks p q d a) n ≡ total t a n + offers t d
-  unfolding does can Tidy
-  total-does E.nothing c = omega arith
-  total-does (E.offered u) c = omega (arith, on-queue t n a q (offer u l) hq, in-offer t u l)
-  total-does E.accepted c = omega (arith, on-queue t n a q (accept l) hq, in-accept t l)
-  total-does E.popped c =
+  pub total-does : (d : Change) → can p q d l ≡ true → total t (does ks p q d a) n ≡ total t a n + offers t d
+  unfolding does can Tidy count
+  total-does Change.None c = omega arith
+  total-does (Change.Offered u) c = omega (arith, on-queue t n a q (offer u l) hq, in-offer t u l)
+  total-does Change.Accepted c = omega (arith, on-queue t n a q (accept l) hq, in-accept t l)
+  total-does Change.Popped c =
       omega (
         arith,
         in-hand t n (onQueue a q (pop (ks q) l)) p (popFrom (ks q) (l .resting) ∷ []) hp,
@@ -61,14 +65,14 @@ module _ (t n : ℕ) (ks : ℕ → Kind) (p q : ℕ) (hp : p < n) (hq : q < n) (
         in-pop t (ks q) l (filled (l .resting) (and-right (eqb p q) (not (isNil (l .resting))) c)),
         count-one t (popFrom (ks q) (l .resting)),
       )
-  total-does (E.booked k) c =
+  total-does (Change.Booked k) c =
       omega (
         arith,
         on-queue t n a q (book p k l) hq,
         in-book t p k l
             (tidy q (not-true (isOpen (l .holder)) (and-left (not (isOpen (l .holder))) (andb (ltb 0 k) (leb k (length (l .resting)))) c))),
       )
-  total-does (E.landed k) c =
+  total-does (Change.Landed k) c =
       let a₁ : Plain = onQueue a q (leave k l) in
       omega (
         arith,
@@ -77,7 +81,7 @@ module _ (t n : ℕ) (ks : ℕ → Kind) (p q : ℕ) (hp : p < n) (hq : q < n) (
         on-queue t n a₁ p (arrive (take k (l .booked)) (a₁ .queue p)) hp,
         in-arrive t (take k (l .booked)) (a₁ .queue p),
       )
-  total-does (E.landedLast k) c =
+  total-does (Change.TakeLanded k) c =
       let a₁ : Plain = onQueue a q (leave (k + 1) l) in
       let v : Lists = arrive (take k (l .booked)) (a₁ .queue p) in
       omega (
@@ -90,7 +94,7 @@ module _ (t n : ℕ) (ks : ℕ → Kind) (p q : ℕ) (hp : p < n) (hq : q < n) (
         count-one t (getD (l .booked) k 0),
         count-next t k (l .booked) (ltb-true _ _ (and-right (heldBy p (l .holder)) (ltb k (length (l .booked))) c)),
       )
-  total-does E.drained c =
+  total-does Change.Drained c =
       omega (
         arith,
         on-queue t n a q (leave 1 l) hq,
@@ -100,7 +104,7 @@ module _ (t n : ℕ) (ks : ℕ → Kind) (p q : ℕ) (hp : p < n) (hq : q < n) (
         count-next t 0 (l .booked) (ltb-true _ _ (and-right (heldBy p (l .holder)) (ltb 0 (length (l .booked))) c)),
         count-none t,
       )
-  total-does (E.dropped k) c =
+  total-does (Change.Dropped k) c =
       omega (
         arith,
         on-queue t n a q (leave k l) hq,
@@ -108,7 +112,7 @@ module _ (t n : ℕ) (ks : ℕ → Kind) (p q : ℕ) (hp : p < n) (hq : q < n) (
         drops-out t n (onQueue a q (leave k l)) (take k (l .booked)),
         count-append t (a .gone) (take k (l .booked)),
       )
-  total-does E.closed c = omega (arith, on-queue t n a q (shut l) hq, in-shut t l)
+  total-does Change.Closed c = omega (arith, on-queue t n a q (shut l) hq, in-shut t l)
 
   tidy-leave : (k : ℕ) → heldBy p (l .holder) ≡ true → (i : ℕ) → TidyLists (update (a .queue) q (leave k l) i)
   unfolding leave Tidy
@@ -121,41 +125,32 @@ module _ (t n : ℕ) (ks : ℕ → Kind) (p q : ℕ) (hp : p < n) (hq : q < n) (
       update-if (update (a .queue) q (leave k l)) p TidyLists (arrive (take j (l .booked)) (update (a .queue) q (leave k l) p)) i
       (λ e. tidy-leave k c p) (tidy-leave k c i)
 
-  pub tidy-does : (d : Deed) → can p q d l ≡ true → Tidy (does ks p q d a)
+  pub tidy-does : (d : Change) → can p q d l ≡ true → Tidy (does ks p q d a)
   unfolding does can Tidy offer accept pop book shut
-  tidy-does E.nothing c = tidy
-  tidy-does (E.offered u) c = λ i. update-if (a .queue) q TidyLists (offer u l) i (λ e. tidy q) (tidy i)
-  tidy-does E.accepted c = λ i. update-if (a .queue) q TidyLists (accept l) i (λ e. tidy q) (tidy i)
-  tidy-does E.popped c = λ i. update-if (a .queue) q TidyLists (pop (ks q) l) i (λ e. tidy q) (tidy i)
-  tidy-does (E.booked k) c = λ i. update-if (a .queue) q TidyLists (book p k l) i (λ e o. absurd (true≢false o)) (tidy i)
-  tidy-does (E.landed k) c = tidy-land k k (and-left (heldBy p (l .holder)) (leb k (length (l .booked))) c)
-  tidy-does (E.landedLast k) c = tidy-land k (k + 1) (and-left (heldBy p (l .holder)) (ltb k (length (l .booked))) c)
-  tidy-does E.drained c = tidy-leave 1 (and-left (heldBy p (l .holder)) (ltb 0 (length (l .booked))) c)
-  tidy-does (E.dropped k) c = tidy-leave k (and-left (heldBy p (l .holder)) (leb k (length (l .booked))) c)
-  tidy-does E.closed c =
+  tidy-does Change.None c = tidy
+  tidy-does (Change.Offered u) c = λ i. update-if (a .queue) q TidyLists (offer u l) i (λ e. tidy q) (tidy i)
+  tidy-does Change.Accepted c = λ i. update-if (a .queue) q TidyLists (accept l) i (λ e. tidy q) (tidy i)
+  tidy-does Change.Popped c = λ i. update-if (a .queue) q TidyLists (pop (ks q) l) i (λ e. tidy q) (tidy i)
+  tidy-does (Change.Booked k) c = λ i. update-if (a .queue) q TidyLists (book p k l) i (λ e o. absurd (true≢false o)) (tidy i)
+  tidy-does (Change.Landed k) c = tidy-land k k (and-left (heldBy p (l .holder)) (leb k (length (l .booked))) c)
+  tidy-does (Change.TakeLanded k) c = tidy-land k (k + 1) (and-left (heldBy p (l .holder)) (ltb k (length (l .booked))) c)
+  tidy-does Change.Drained c = tidy-leave 1 (and-left (heldBy p (l .holder)) (ltb 0 (length (l .booked))) c)
+  tidy-does (Change.Dropped k) c = tidy-leave k (and-left (heldBy p (l .holder)) (leb k (length (l .booked))) c)
+  tidy-does Change.Closed c =
       λ i. update-if (a .queue) q TidyLists (shut l) i
       (λ e o. shut-booked (l .booked) (and-right (heldBy p (l .holder)) (isNil (l .booked)) c)) (tidy i)
 
 -- ---- a token handed out
 
-named-short : (r : Answer) → length (named r) ≤ 1
-named-short A.pending = omega arith
-named-short A.pushed = omega arith
-named-short (A.full u) = omega arith
-named-short (A.popped u) = omega arith
-named-short A.none = omega arith
-named-short (A.extended k) = omega arith
-named-short (A.stolen k) = omega arith
-named-short (A.taken u k) = omega arith
-named-short (A.drain k) = omega arith
-named-short (A.item u) = omega arith
-named-short A.done = omega arith
-named-short A.closed = omega arith
-named-short A.busy = omega arith
-named-short A.empty = omega arith
-named-short (A.spare k) = omega arith
-named-short A.yes = omega arith
-named-short A.no = omega arith
+values-short : (v : Values) → length (tokensOf v) ≤ 1
+values-short Values.None = omega arith
+values-short (Values.Token u) = omega arith
+values-short (Values.Count k) = omega arith
+values-short (Values.Both u k) = omega arith
+
+handed-short : (r : Answer) → length (handedOut r) ≤ 1
+handed-short r =
+    pick-if (λ (l : List ℕ). length l ≤ 1) (answerRow r .out) (λ _. values-short (answerRow r .values)) (λ _. omega arith)
 
 module _ (t : ℕ) where
   in-front : (ts h : List ℕ) → length ts ≤ 1 → inFront ts h ≡ true → count t h ≡ count t ts + count t (drop (length ts) h)
@@ -165,14 +160,14 @@ module _ (t : ℕ) where
   in-front (u ∷ []) (x ∷ h) s e = omega (arith, ap (one t) (eqb-true u x e))
   in-front (u ∷ v ∷ ts) h s e = absurd (omega arith)
 
-  pub total-out : (n p : ℕ) → p < n → (a : Plain) (r : Answer) → inFront (named r) (a .hand p) ≡ true
-      → total t (handOut p (named r) a) n ≡ total t a n
+  pub total-out : (n p : ℕ) → p < n → (a : Plain) (r : Answer) → inFront (handedOut r) (a .hand p) ≡ true
+      → total t (handOut p (handedOut r) a) n ≡ total t a n
   total-out n p h a r e =
       omega (
         arith,
-        on-hand t n a p (drop (length (named r)) (a .hand p)) (a .out ++ named r) (a .gone) h,
-        in-front (named r) (a .hand p) (named-short r) e,
-        count-append t (a .out) (named r),
+        on-hand t n a p (drop (length (handedOut r)) (a .hand p)) (a .out ++ handedOut r) (a .gone) h,
+        in-front (handedOut r) (a .hand p) (handed-short r) e,
+        count-append t (a .out) (handedOut r),
       )
 
 -- ---- the whole record
@@ -187,7 +182,7 @@ Below n [] = Unit {0}
 Below n (x ∷ l) = EntryBelow n x × Below n l
 
 abbrev pub offeredBy : ℕ → Entry → ℕ
-offeredBy t (did e) = offers t (e .deed)
+offeredBy t (did e) = offers t (e .change)
 offeredBy t (said p r) = 0
 
 -- what an entry leaves: the tokens it offers are added, and where no booking is open, nothing is booked
@@ -203,14 +198,14 @@ module _ (ks : ℕ → Kind) (t n : ℕ) where
   entry-adds : (x : Entry) (a b : Plain) → EntryBelow n x → Tidy a → replayEntry ks x a ≡ lists b → Adds t n (offeredBy t x) a b
   unfolding Tidy
   entry-adds (did e) a b w tidy r =
-      let k = came (can (e .party) (e .queue) (e .deed) (a .queue (e .queue))) (does ks (e .party) (e .queue) (e .deed) a) b r in
-      subst (Adds t n (offers t (e .deed)) a) (k .1)
+      let k = came (can (e .party) (e .queue) (e .change) (a .queue (e .queue))) (does ks (e .party) (e .queue) (e .change) a) b r in
+      subst (Adds t n (offers t (e .change)) a) (k .1)
       (record {
-        sum = total-does t n ks (e .party) (e .queue) (w .0) (w .1) a tidy (e .deed) (k .0);
-        tidy = tidy-does t n ks (e .party) (e .queue) (w .0) (w .1) a tidy (e .deed) (k .0);
+        sum = total-does t n ks (e .party) (e .queue) (w .0) (w .1) a tidy (e .change) (k .0);
+        tidy = tidy-does t n ks (e .party) (e .queue) (w .0) (w .1) a tidy (e .change) (k .0);
       })
   entry-adds (said p m) a b w tidy r =
-      let k = came (inFront (named m) (a .hand p)) (handOut p (named m) a) b r in
+      let k = came (inFront (handedOut m) (a .hand p)) (handOut p (handedOut m) a) b r in
       subst (Adds t n 0 a) (k .1) (record { sum = omega (arith, total-out t n p w a m (k .0)); tidy = tidy })
 
   none-standing : (k : ℕ) → standing t nothingYet k ≡ 0

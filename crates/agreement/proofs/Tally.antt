@@ -7,7 +7,8 @@ use native.Mathlib.Omega.{arith}
 use native.Mathlib.Numerals.{add-one}
 use lib.ListN.{length, take, drop, getD, take-append-drop}
 use lib.Seq.{take-suc, take-length}
-use Rattle.tables.specs.Rule.{Kind, lifo, fifo}
+use Rattle.tables.specs.declared.state.Kind.{Kind}
+use Rattle.tables.specs.declared.state.Kind.the-variants as Kind
 use Rattle.tables.specs.Lists.{Lists, Plain, update, offer, accept, popFrom, pop, book, leave, arrive, shut, onQueue, inHand, dropsOut}
 use Rattle.tables.proofs.Bools.{equal-or-not}
 use Rattle.tables.proofs.Updates.{update-same, update-other}
@@ -49,12 +50,12 @@ module _ (t : ℕ) where
 
   pub in-pop : (k : Kind) (l : Lists) → 0 < length (l .resting) → inLists t (pop k l) + one t (popFrom k (l .resting)) ≡ inLists t l
   unfolding pop
-  in-pop lifo l h =
+  in-pop Kind.Lifo l h =
       let r = l .resting in
       let e : length r - 1 + 1 ≡ length r = omega arith in
       let whole : take (length r - 1 + 1) r ≡ r = ap (λ (n : ℕ). take n r) e ∙ take-length r in
       omega (arith, count-next (length r - 1) r (omega arith), ap (count t) whole)
-  in-pop fifo l h = omega (arith, count-next 0 (l .resting) h, count-split 1 (l .resting), count-none)
+  in-pop Kind.Fifo l h = omega (arith, count-next 0 (l .resting) h, count-split 1 (l .resting), count-none)
 
   pub in-book : (p n : ℕ) (l : Lists) → l .booked ≡ [] → inLists t (book p n l) ≡ inLists t l
   unfolding book

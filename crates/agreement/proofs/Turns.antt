@@ -1,4 +1,4 @@
--- A step on the own queue, framed: it keeps the tables' invariant.
+-- A step on the own queue, framed: it keeps the tables' invariant, since what the other roles know stands (Stable).
 use mathlib.Core.Path.{_≡_, refl, sym, ap, subst, _∙_}
 use mathlib.Core.Logic.{_≢_, _⊎_, inl, inr}
 use mathlib.Core.Bool.{true, false}
@@ -6,23 +6,24 @@ use mathlib.Core.List.{List}
 use Prim.Native.Nat.{ℕ, _+_, _<_}
 use native.Mathlib.Omega.{arith}
 use Rattle.words.specs.Word.{pick}
-use Rattle.tables.specs.Rule.{Kind, Mark}
-use Rattle.tables.specs.Place as P
-use Rattle.tables.specs.Place.{Place}
+use Rattle.tables.specs.declared.access.Next.{Next}
+use Rattle.tables.specs.declared.call.Mark.{Mark}
+use Rattle.tables.specs.declared.state.Kind.{Kind}
+use Rattle.tables.specs.declared.place.Place.{Place}
+use Rattle.tables.specs.declared.place.Place.the-variants as Place
 use Rattle.tables.specs.Access.{Accessed}
-use Rattle.tables.specs.Answer as A
-use Rattle.tables.specs.Answer.{Answer}
-use Rattle.tables.specs.Row.{Next}
 use Rattle.tables.specs.Tables.{sourceOf}
-use Rattle.tables.specs.Lists.{party, Lists, update, does, can, named, inFront}
-use Rattle.tables.specs.Causes.{movedBy, isFirstLoad, isHeadLoad, fillOf}
+use Rattle.tables.specs.Answer.{Reason, nothing, noneRested, noneFree, oneOpen, noneToBook, answerRow, handedOut}
+use Rattle.tables.specs.Lists.{party, Lists, update, does, can, inFront}
+use Rattle.tables.specs.Effect.{movesOf}
+use Rattle.tables.specs.Causes.{isFirstLoad, isHeadLoad, fillOf}
 use Rattle.agreement.proofs.Nums.{Who, noone, call, drain, holderOf, Nums}
 use Rattle.tables.proofs.Updates.{update-elim, update-same}
 use Rattle.agreement.proofs.Frame.{column, column-s, after, frame}
 use Rattle.agreement.proofs.Facts.{BkF, held}
 use Rattle.agreement.proofs.Stable.{bkr-stable, drn-stable}
-use Rattle.agreement.proofs.Steps.{changed, handed, Single, handOver, Why, Still, OwnNext}
-use Rattle.agreement.proofs.Cells.{Cell, Member, Ok, src, Own, Bkr, Drn, Claim, MInv, words, plainOf, deedAt, single-at, does-queue, Causes, Ran}
+use Rattle.agreement.proofs.Steps.{changed, handed, Single, handOver, WhyOf, Still, OwnNext}
+use Rattle.agreement.proofs.Cells.{Cell, Member, Ok, src, Own, Bkr, Drn, Claim, MInv, words, plainOf, namedQueue, single-at, does-queue, Causes, Ran}
 
 pub call-some : (p : ℕ) → call p ≢ noone
 call-some p e = let z : _≡_ {A = ℕ} 0 1 = cc in omega arith
@@ -37,24 +38,12 @@ party-same p r e = cc
 pub other : (p r : ℕ) (me x : Who) → holderOf me ≡ party p → holderOf x ≡ party r → r ≢ p → x ≢ me
 other p r me x em ex n e = n (party-same p r (sym ex ∙ ap holderOf e ∙ em))
 
-pub why-map : {f n b e f₂ n₂ b₂ e₂ : Type 0} (a : Answer) → (f → f₂) → (n → n₂) → (b → b₂) → (e → e₂) → Why f n b e a → Why f₂ n₂ b₂ e₂ a
-why-map A.none p q r s x = q x
-why-map (A.full t) p q r s x = p x
-why-map A.busy p q r s x = r x
-why-map A.empty p q r s x = s x
-why-map A.pending p q r s x = tt
-why-map A.pushed p q r s x = tt
-why-map (A.popped t) p q r s x = tt
-why-map (A.extended k) p q r s x = tt
-why-map (A.stolen k) p q r s x = tt
-why-map (A.taken t k) p q r s x = tt
-why-map (A.drain k) p q r s x = tt
-why-map (A.item t) p q r s x = tt
-why-map A.done p q r s x = tt
-why-map A.closed p q r s x = tt
-why-map (A.spare k) p q r s x = tt
-why-map A.yes p q r s x = tt
-why-map A.no p q r s x = tt
+pub why-map : {f n b e f₂ n₂ b₂ e₂ : Type 0} (r : Reason) → (f → f₂) → (n → n₂) → (b → b₂) → (e → e₂) → WhyOf f n b e r → WhyOf f₂ n₂ b₂ e₂ r
+why-map nothing p q r s x = tt
+why-map noneRested p q r s x = q x
+why-map noneFree p q r s x = p x
+why-map oneOpen p q r s x = r x
+why-map noneToBook p q r s x = s x
 
 module _ (w n : ℕ) (cells : ℕ → Cell) (members : ℕ → Member) (p : ℕ) (pl : Place) (mark : Mark) (x : ℕ) (o : Accessed) (nx : Next) where
   abbrev pub fm₁ : ℕ
@@ -64,7 +53,7 @@ module _ (w n : ℕ) (cells : ℕ → Cell) (members : ℕ → Member) (p : ℕ)
   fill₁ = pick (isHeadLoad pl) (fillOf (cells p .l)) (members p .fill)
 
   abbrev pub hand₁ : List ℕ
-  hand₁ = handed (cells x .kind) (nx .deed) (cells x .l) (members p .hand)
+  hand₁ = handed (cells x .kind) (nx .change) (cells x .l) (members p .hand)
 
   abbrev pub member₁ : List ℕ → Member
   member₁ items = record {
@@ -80,16 +69,16 @@ module _ (w n : ℕ) (cells : ℕ → Cell) (members : ℕ → Member) (p : ℕ)
   -- one queue and the party changed
   pub ran-one : (c₂ : Cell) (items : List ℕ) → MInv w n (update cells x c₂) (update members p (member₁ items)) → words w c₂ ≡ o .queue
       → c₂ .s ≡ o .slots
-      → c₂ .l ≡ changed (cells x .kind) p (nx .deed) (cells x .l) → Single (nx .deed)
-      → c₂ .g .moved ≡ cells x .g .moved + movedBy (nx .deed) → c₂ .g .start ≡ cells x .g .start
+      → c₂ .l ≡ changed (cells x .kind) p (nx .change) (cells x .l) → Single (nx .change)
+      → c₂ .g .moved ≡ cells x .g .moved + movesOf (nx .change) → c₂ .g .start ≡ cells x .g .start
       → (c₂ .g .who ≡ noone → cells x .g .moved + c₂ .g .pops ≡ c₂ .g .moved + cells x .g .pops)
       → (Still w pl (cells (sourceOf p pl) .g) → Still w (nx .place) (update cells x c₂ (sourceOf p (nx .place)) .g))
-      → (nx .place ≡ P.idle) ⊎ (sourceOf p (nx .place) ≡ sourceOf p pl)
-      → inFront (named (nx .answer)) hand₁ ≡ true → can p x (nx .deed) (cells x .l) ≡ true
+      → (nx .place ≡ Place.Idle) ⊎ (sourceOf p (nx .place) ≡ sourceOf p pl)
+      → inFront (handedOut (nx .answer)) hand₁ ≡ true → can p x (nx .change) (cells x .l) ≡ true
       → Causes w fill₁ pl (cells p) (cells (sourceOf p pl)) (update cells x c₂ (sourceOf p pl) .l) mark (nx .answer)
       → Ran w n cells members p pl mark x o nx
   ran-one c₂ items kept eq es el single em est st stp sr fair can-s why =
-      let q : deedAt (nx .deed) x (sourceOf p pl) ≡ x = single-at (nx .deed) x (sourceOf p pl) single in
+      let q : namedQueue (nx .change) x (sourceOf p pl) ≡ x = single-at (nx .change) x (sourceOf p pl) single in
       record {
         cells′ = update cells x c₂;
         members′ = update members p (member₁ items);
@@ -103,21 +92,21 @@ module _ (w n : ℕ) (cells : ℕ → Cell) (members : ℕ → Member) (p : ℕ)
         fill-are = column (λ (m : Member). m .fill) members (λ (z : ℕ). members z .fill) (λ _. refl) p (member₁ items) fill₁ refl;
         hand-are =
             column (λ (m : Member). m .hand) members (λ (z : ℕ). members z .hand) (λ _. refl) p (member₁ items)
-            (handOver (nx .answer) (handed (cells (deedAt (nx .deed) x (sourceOf p pl)) .kind) (nx .deed)
-            (cells (deedAt (nx .deed) x (sourceOf p pl)) .l) (members p .hand)))
-            (ap (λ (y : ℕ). handOver (nx .answer) (handed (cells y .kind) (nx .deed) (cells y .l) (members p .hand))) (sym q));
-        fair = subst (λ (y : ℕ). inFront (named (nx .answer)) (handed (cells y .kind) (nx .deed) (cells y .l) (members p .hand)) ≡ true)
+            (handOver (nx .answer) (handed (cells (namedQueue (nx .change) x (sourceOf p pl)) .kind) (nx .change)
+            (cells (namedQueue (nx .change) x (sourceOf p pl)) .l) (members p .hand)))
+            (ap (λ (y : ℕ). handOver (nx .answer) (handed (cells y .kind) (nx .change) (cells y .l) (members p .hand))) (sym q));
+        fair = subst (λ (y : ℕ). inFront (handedOut (nx .answer)) (handed (cells y .kind) (nx .change) (cells y .l) (members p .hand)) ≡ true)
             (sym q) fair;
-        can-s = subst (λ (y : ℕ). can p y (nx .deed) (cells y .l) ≡ true) (sym q) can-s;
+        can-s = subst (λ (y : ℕ). can p y (nx .change) (cells y .l) ≡ true) (sym q) can-s;
         ls-are =
             λ ks out gone ek y.
-            subst (λ (z : ℕ). does ks p z (nx .deed) (plainOf cells members out gone) .queue y ≡ update cells x c₂ y .l) (sym q)
-            (does-queue ks p x (nx .deed) (plainOf cells members out gone) single y
+            subst (λ (z : ℕ). does ks p z (nx .change) (plainOf cells members out gone) .queue y ≡ update cells x c₂ y .l) (sym q)
+            (does-queue ks p x (nx .change) (plainOf cells members out gone) single y
             ∙ sym (column (λ (c : Cell). c .l) cells (λ (z : ℕ). cells z .l)
-            (λ _. refl) x c₂ (changed (ks x) p (nx .deed) (cells x .l)) (el
-            ∙ ap (λ (k : Kind). changed k p (nx .deed) (cells x .l)) (sym ek)) y));
+            (λ _. refl) x c₂ (changed (ks x) p (nx .change) (cells x .l)) (el
+            ∙ ap (λ (k : Kind). changed k p (nx .change) (cells x .l)) (sym ek)) y));
         moved-are = column (λ (c : Cell). c .g .moved) cells (λ (z : ℕ). cells z .g .moved)
-            (λ _. refl) x c₂ (cells x .g .moved + movedBy (nx .deed)) em;
+            (λ _. refl) x c₂ (cells x .g .moved + movesOf (nx .change)) em;
         start-s = column-s (λ (c : Cell). c .g .start) cells x c₂ est;
         still =
             λ y. update-elim cells x c₂ (λ (c : Cell). c .g .who ≡ noone
@@ -153,7 +142,7 @@ module _ (w n : ℕ) {cells : ℕ → Cell} {members : ℕ → Member} (inv : MI
       (λ r ne f h. f (ap holderOf (sym (t .who-s)) ∙ h)))
       (sym (t .q-is)) refl refl (t .single) (t .moved-s) (t .rb .start-s) (t .still)
       (λ _. t .still-n _) (inr (t .src-s)) (t .fair) (t .can-s)
-      (why-map (nx .answer) (λ a. a) (λ a. a) (λ a. absurd a) (λ a. absurd a) (t .why))
+      (why-map (answerRow (nx .answer) .reason) (λ a. a) (λ a. a) (λ a. absurd a) (λ a. absurd a) (t .why))
     where
       c₂ : Cell
       c₂ = record {
@@ -161,7 +150,7 @@ module _ (w n : ℕ) {cells : ℕ → Cell} {members : ℕ → Member} (inv : MI
         cap = cells p .cap;
         s = o .slots;
         g = t .g′;
-        l = changed (cells p .kind) p (nx .deed) (cells p .l);
+        l = changed (cells p .kind) p (nx .change) (cells p .l);
       }
 
       m₂ : Member
@@ -171,7 +160,7 @@ module _ (w n : ℕ) {cells : ℕ → Cell} {members : ℕ → Member} (inv : MI
           → BkF w p fm (members p .items) pl (cells (sourceOf p pl) .kind) g₂ l₂
           → BkF w p fm (members p .items) (nx .place) (cells (sourceOf p pl) .kind) g₂ l₂))
           ⊎ ((t .actor ≡ drain p) × (sourceOf p pl ≡ p) × ((fm : ℕ) → BkF w p fm (members p .items) (nx .place) (cells p .kind) (t .g′)
-          (changed (cells p .kind) p (nx .deed) (cells p .l))))
+          (changed (cells p .kind) p (nx .change) (cells p .l))))
           → (r : ℕ) (z : Who) → holderOf z ≡ party r → z ≢ noone → r ≢ p → z ≢ t .actor
       apart (inl a) r z ez nz ne e = nz (e ∙ a .0)
       apart (inr a) r z ez nz ne e = other p r (drain p) z refl ez ne (e ∙ a .0)
@@ -186,7 +175,7 @@ module _ (w n : ℕ) {cells : ℕ → Cell} {members : ℕ → Member} (inv : MI
           → BkF w p fm (members p .items) pl (cells (sourceOf p pl) .kind) g₂ l₂
           → BkF w p fm (members p .items) (nx .place) (cells (sourceOf p pl) .kind) g₂ l₂))
           ⊎ ((t .actor ≡ drain p) × (sourceOf p pl ≡ p) × ((fm : ℕ) → BkF w p fm (members p .items) (nx .place) (cells p .kind) (t .g′)
-          (changed (cells p .kind) p (nx .deed) (cells p .l))))
+          (changed (cells p .kind) p (nx .change) (cells p .l))))
           → Bkr w n p m₂ (update cells p c₂ (sourceOf p (nx .place)))
       bkr′ (inl a) =
           let b : BkF w p (members p .fm) (members p .items) (members p .bl) (update cells p c₂ (sourceOf p (members p .bl)) .kind)

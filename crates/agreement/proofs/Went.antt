@@ -1,17 +1,21 @@
--- A step which nothing refuses keeps what holds of a run: the notes, and the whole.
+-- A step which nothing refuses keeps what holds of a run: its notes are the tables' columns, and where no booking was open since a LIFO
+-- booking's first load, the head that it loaded is the head still.
 use mathlib.Core.Path.{_≡_, refl, sym, ap, ap₂, subst, _∙_}
 use mathlib.Core.Logic.{_≢_}
 use mathlib.Core.Bool.{Bool, true, false}
 use Prim.Native.Nat.{ℕ, _+_, _<_}
 use native.Mathlib.Omega.{arith}
 use Rattle.words.specs.Word.{pick}
-use Rattle.tables.specs.Rule.{lifo, Mark}
-use Rattle.tables.specs.Place.{Place}
-use Rattle.tables.specs.Machine.{Queue, Party}
+use Rattle.tables.specs.declared.call.Mark.{Mark}
+use Rattle.tables.specs.declared.state.Kind.the-variants as Kind
+use Rattle.tables.specs.declared.state.Party.{Party}
+use Rattle.tables.specs.declared.state.Queue.{Queue}
+use Rattle.tables.specs.declared.place.Place.{Place}
 use Rattle.tables.specs.Tables.{sourceOf}
 use Rattle.tables.specs.Step.{placeAt, sourceAt}
 use Rattle.tables.specs.Lists.{isOpen, Lists, Plain, update}
-use Rattle.tables.specs.Causes.{Notes, notes, movedBy, isFirstLoad, isHeadLoad, fillOf, Premise}
+use Rattle.tables.specs.Effect.{movesOf}
+use Rattle.tables.specs.Causes.{Notes, notes, isFirstLoad, isHeadLoad, fillOf, Premise}
 use Rattle.agreement.specs.Statement.{Run, didEntry, listsOf, replayed, afterStep}
 use Rattle.agreement.proofs.Nums.{noone, head}
 use Rattle.agreement.proofs.Whole.{LifoPart}
@@ -40,7 +44,7 @@ module _ (w : ℕ) (wide : 1 < w) {r : Run} (b : Good w r) (p : ℕ) (pn : p < r
   notes₁ =
       notes (r .machine) p (replayed (r .machine) (r .record′)) (replayed (r .machine)
       (didEntry (after w wide b p pn mark prem .effect) (r .record′)))
-      (after w wide b p pn mark prem .effect .queue) (after w wide b p pn mark prem .effect .deed) (r .notes)
+      (after w wide b p pn mark prem .effect .queue) (after w wide b p pn mark prem .effect .change) (r .notes)
 
   place : placeAt (r .machine) p ≡ b .members p .pl
   place = place-is w (r .machine) (r .items) (b .fits) p pn mark
@@ -52,9 +56,9 @@ module _ (w : ℕ) (wide : 1 < w) {r : Run} (b : Good w r) (p : ℕ) (pn : p < r
   pub moved₁ : (z : ℕ) → notes₁ .moved z ≡ step₁ .cells′ z .g .moved
   unfolding notes
   moved₁ z =
-      notes-moved (r .notes .moved) p (x w wide b p pn mark prem) (y w wide b p pn mark prem) (next w wide b p pn mark prem .deed) z
+      notes-moved (r .notes .moved) p (x w wide b p pn mark prem) (y w wide b p pn mark prem) (next w wide b p pn mark prem .change) z
       ∙ update-ext (r .notes .moved) (λ (v : ℕ). b .cells v .g .moved) (b .moved-are) (x w wide b p pn mark prem) _ _ (ap
-      (λ (n : ℕ). n + movedBy (next w wide b p pn mark prem .deed)) (b .moved-are (x w wide b p pn mark prem))) z
+      (λ (n : ℕ). n + movesOf (next w wide b p pn mark prem .change)) (b .moved-are (x w wide b p pn mark prem))) z
       ∙ sym (step₁ .moved-are z)
 
   pub first₁ : (z : ℕ) → notes₁ .first z ≡ step₁ .members′ z .fm
@@ -100,7 +104,7 @@ module _ (w : ℕ) (wide : 1 < w) {r : Run} (b : Good w r) (p : ℕ) (pn : p < r
       ∙ ap (λ (v : Queue). v .kind) (b .fits .q-are z lt)
 
   -- a LIFO head stays where no booking is open after the step
-  head₁ : (z : ℕ) → z < r .machine .parties → step₁ .cells′ z .g .who ≡ noone → b .cells z .kind ≡ lifo
+  head₁ : (z : ℕ) → z < r .machine .parties → step₁ .cells′ z .g .who ≡ noone → b .cells z .kind ≡ Kind.Lifo
       → head (step₁ .cells′ z .g) ≡ head (b .cells z .g)
   head₁ z lt e k =
       let u : LifoPart (b .cells z .g) = lifo-part (b .cells z .kind) (b .cells z .g) k (b .inv .ok z .part) in

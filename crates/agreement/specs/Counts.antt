@@ -3,8 +3,8 @@ use Prim.Native.Nat.{ℕ, zero, suc, _+_}
 use mathlib.Core.List.{List, [], _∷_}
 use lib.Dec.{eqb}
 use Rattle.words.specs.Word.{pick}
-use Rattle.tables.specs.Effect as E
-use Rattle.tables.specs.Effect.{Deed}
+use Rattle.tables.specs.declared.answer.Change.{Change}
+use Rattle.tables.specs.Effect.{changeRow}
 use Rattle.tables.specs.Lists.{Lists, Plain, Entry, did, said}
 
 abbrev pub one : ℕ → ℕ → ℕ
@@ -21,19 +21,10 @@ unfoldable pub standing : ℕ → Plain → ℕ → ℕ
 standing t a zero = 0
 standing t a (suc n) = standing t a n + (inLists t (a .queue n) + count t (a .hand n))
 
-abbrev pub offers : ℕ → Deed → ℕ
-offers t E.nothing = 0
-offers t (E.offered x) = one t x
-offers t E.accepted = 0
-offers t E.popped = 0
-offers t (E.booked n) = 0
-offers t (E.landed n) = 0
-offers t (E.landedLast n) = 0
-offers t E.drained = 0
-offers t (E.dropped n) = 0
-offers t E.closed = 0
+abbrev pub offers : ℕ → Change → ℕ
+offers t c = count t (changeRow c .offers)
 
 unfoldable pub offered : ℕ → List Entry → ℕ
 offered t [] = 0
-offered t (did e ∷ l) = offers t (e .deed) + offered t l
+offered t (did e ∷ l) = offers t (e .change) + offered t l
 offered t (said p r ∷ l) = offered t l

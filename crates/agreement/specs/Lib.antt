@@ -1,3 +1,3 @@
-pub mod Shows
 pub mod Counts
 pub mod Statement
+pub mod Outcomes

@@ -3,25 +3,32 @@
 -- 2. each token that an answer hands out is the one that the lists put in that party's hand;
 -- 3. the offered tokens are those waiting, resting, booked, in hand, handed out or dropped, each as often;
 -- 4. each "none", "full", "busy" and "empty" had its cause within its call;
--- 5. a run alone is that many single steps.
+-- 5. a run alone is that many single steps;
+-- 6. what the lists put in each hand is what its party's place shows;
+-- 7. a queue's resting tokens and slots not yet given back are never more than its capacity.
 -- begin, step, alone and opening are those of tables/specs/Step. Lists, what an effect does to them and when it cannot, replay:
--- tables/specs/Lists. Causes, the premise at a step: tables/specs/Causes. What slots and counters show: Shows. Counting: Counts.
-use Prim.Native.Nat.{ℕ, zero, suc, _+_, _^_, _<_}
+-- tables/specs/Lists. Causes, the premise at a step: tables/specs/Causes. What slots, counters and places show: tables/specs/Shows. Counting: Counts.
+use Prim.Native.Nat.{ℕ, zero, suc, _+_, _^_, _≤_, _<_}
 use mathlib.Core.Path.{_≡_}
 use mathlib.Core.List.{List, [], _∷_}
 use lib.ListN.{length, getD}
 use lib.Dec.{eqb}
 use Rattle.words.specs.Word.{pick}
-use Rattle.tables.specs.Rule.{Kind, Mark, plain}
-use Rattle.tables.specs.Call.{Call}
-use Rattle.tables.specs.Machine.{Machine, queueAt}
-use Rattle.tables.specs.Answer as A
-use Rattle.tables.specs.Answer.{Answer, isPending}
-use Rattle.tables.specs.Effect.{Effect, isNothing}
+use Rattle.tables.specs.declared.answer.Answer.{Answer}
+use Rattle.tables.specs.declared.answer.Answer.the-variants as Answer
+use Rattle.tables.specs.declared.answer.Effect.{Effect}
+use Rattle.tables.specs.declared.call.Call.{Call}
+use Rattle.tables.specs.declared.call.Mark.{Mark}
+use Rattle.tables.specs.declared.call.Mark.the-variants as Mark
+use Rattle.tables.specs.declared.state.Kind.{Kind}
+use Rattle.tables.specs.declared.state.Machine.{Machine}
+use Rattle.tables.specs.Machine.{queueAt}
+use Rattle.tables.specs.Answer.{isPending}
+use Rattle.tables.specs.Effect.{isNone}
 use Rattle.tables.specs.Step.{Outcome, begin, step, Alone, alone, noted, opening}
 use Rattle.tables.specs.Lists.{Plain, nothingYet, Entry, did, said, Replayed, impossible, lists, replay}
-use Rattle.tables.specs.Causes.{Notes, noNotes, notes, Premise, Cause}
-use Rattle.agreement.specs.Shows.{shows}
+use Rattle.tables.specs.Causes.{Notes, noNotes, begunNotes, fillOf, notes, Premise, Cause}
+use Rattle.tables.specs.Shows.{shows, handAt}
 use Rattle.agreement.specs.Counts.{count, standing, offered}
 
 -- ---- schedules and runs
@@ -42,7 +49,7 @@ pub record Run : Type 0 where
 
 -- a step's effect, then its answer, where it has one
 abbrev pub didEntry : Effect → List Entry → List Entry
-didEntry e l = pick (isNothing (e .deed)) l (did e ∷ l)
+didEntry e l = pick (isNone (e .change)) l (did e ∷ l)
 
 abbrev pub saidEntry : ℕ → Answer → List Entry → List Entry
 saidEntry p r l = pick (isPending r) l (said p r ∷ l)
@@ -61,6 +68,15 @@ listsOf (lists a) = a
 abbrev pub replayed : Machine → List Entry → Plain
 replayed m l = listsOf (replay (kindsOf m) l)
 
+-- a begin records nothing; a refused one clears no notes
+abbrev pub afterBegin : Run → ℕ → Outcome → Run
+afterBegin r p o = record {
+  machine = o .machine;
+  items = o .items;
+  record′ = r .record′;
+  notes = pick (eqb (o .refusal) 0) (begunNotes p (r .notes)) (r .notes);
+}
+
 -- a refused step is not noted
 abbrev pub afterStep : Run → ℕ → Outcome → Run
 afterStep r p o = record {
@@ -70,17 +86,12 @@ afterStep r p o = record {
   notes =
       pick (eqb (o .refusal) 0)
       (notes (r .machine) p (replayed (r .machine) (r .record′)) (replayed (r .machine) (didEntry (o .effect) (r .record′)))
-      (o .effect .queue) (o .effect .deed) (r .notes)) (r .notes);
+      (o .effect .queue) (o .effect .change) (r .notes)) (r .notes);
 }
 
 module _ (w most : ℕ) where
   abbrev pub begun : Run → ℕ → Call → Run
-  begun r p c = record {
-    machine = begin w most (r .machine) (r .items) p c .machine;
-    items = begin w most (r .machine) (r .items) p c .items;
-    record′ = r .record′;
-    notes = r .notes;
-  }
+  begun r p c = afterBegin r p (begin w most (r .machine) (r .items) p c)
 
   abbrev pub stepped : Run → ℕ → Mark → Run
   stepped r p k = afterStep r p (step w most (r .machine) (r .items) p k)
@@ -88,7 +99,7 @@ module _ (w most : ℕ) where
   -- as many plain steps of one party
   unfoldable pub repeated : ℕ → Run → ℕ → Run
   repeated zero r p = r
-  repeated (suc n) r p = repeated n (stepped r p plain) p
+  repeated (suc n) r p = repeated n (stepped r p Mark.Plain) p
 
   -- a run alone counts as the steps that it reports (claim 5)
   abbrev pub line : Run → Line → Run
@@ -100,15 +111,18 @@ module _ (w most : ℕ) where
   runOf r [] = r
   runOf r (x ∷ xs) = runOf (line r x) xs
 
-  -- ---- the premise, before each step of the schedule: it asks something of steps inside a booking only
+  -- ---- the premise, before each step of the schedule that is taken: it asks something of steps inside a booking only
+
+  abbrev pub StepKeeps : Run → ℕ → Mark → Type 0
+  StepKeeps r p k = step w most (r .machine) (r .items) p k .refusal ≡ 0 → Premise w (r .machine) (r .notes) p
 
   unfoldable pub RepeatKeeps : ℕ → Run → ℕ → Type 0
   RepeatKeeps zero r p = Unit {0}
-  RepeatKeeps (suc n) r p = Premise w (r .machine) (r .notes) p × RepeatKeeps n (stepped r p plain) p
+  RepeatKeeps (suc n) r p = StepKeeps r p Mark.Plain × RepeatKeeps n (stepped r p Mark.Plain) p
 
   abbrev pub LineKeeps : Run → Line → Type 0
   LineKeeps r (begins p c) = Unit {0}
-  LineKeeps r (steps p k) = Premise w (r .machine) (r .notes) p
+  LineKeeps r (steps p k) = StepKeeps r p k
   LineKeeps r (alones p n) = RepeatKeeps (alone w most (r .machine) (r .items) p n .steps) r p
 
   unfoldable pub Keeps : Run → List Line → Type 0
@@ -133,7 +147,7 @@ module _ (w most : ℕ) where
 
   unfoldable pub singles : ℕ → Run → ℕ → List Outcome
   singles zero r p = []
-  singles (suc n) r p = step w most (r .machine) (r .items) p plain ∷ singles n (stepped r p plain) p
+  singles (suc n) r p = step w most (r .machine) (r .items) p Mark.Plain ∷ singles n (stepped r p Mark.Plain) p
 
 unfoldable pub NoneRefused : List Outcome → Type 0
 NoneRefused [] = Unit {0}
@@ -160,7 +174,7 @@ pub record AloneAgrees (w most : ℕ) (r : Run) (p : ℕ) (b : Alone) : Type 0 w
   pub machine : repeated w most (b .steps) r p .machine ≡ b .machine
   pub items : repeated w most (b .steps) r p .items ≡ b .items
   pub taken : NoneRefused (singles w most (b .steps) r p)
-  pub answer : b .answer ≡ lastAnswer A.pending (singles w most (b .steps) r p)
+  pub answer : b .answer ≡ lastAnswer Answer.Pending (singles w most (b .steps) r p)
   pub effects : b .effects ≡ gathered [] (singles w most (b .steps) r p)
   -- its effects and answer, put on the record as they are, replay to the same lists
   pub same-lists :
@@ -175,11 +189,16 @@ pub record Agrees (w most : ℕ) (r : Run) : Type 0 where
   pub shown : (q : ℕ) → q < r .machine .parties → plain .queue q ≡ shows w (r .machine) (r .items) q
   -- claim 3
   pub sum : (t : ℕ) → offered t (r .record′) ≡ standing t plain (r .machine .parties) + (count t (plain .out) + count t (plain .gone))
-  -- claim 4, of the answer of any next step
+  -- claim 4, of the answer of any next step that keeps the premise (a refused one has none)
   pub caused :
-      (p : ℕ) (k : Mark) → Premise w (r .machine) (r .notes) p
+      (p : ℕ) (k : Mark) → StepKeeps w most r p k
       → Cause w (r .machine) p k (replayed (r .machine) (r .record′)) (stepped w most r p k .notes) (step w most (r .machine) (r .items) p k .answer)
+  -- claim 5
   pub alone-agrees : (p n : ℕ) → AloneAgrees w most r p (alone w most (r .machine) (r .items) p n)
+  -- claim 6: what each party has in hand
+  pub in-hand : (p : ℕ) → p < r .machine .parties → plain .hand p ≡ handAt w (r .machine) (r .items) p
+  -- claim 7: resting plus slots not yet given back
+  pub fits : (q : ℕ) → q < r .machine .parties → fillOf (plain .queue q) ≤ queueAt (r .machine) q .capacity
 
 unfoldable pub Demand3 : ℕ → ℕ → Type 0
 Demand3 w most = (r : Run) (s : List Line) → Fresh w most r → Keeps w most r s → Agrees w most (runOf w most r s)

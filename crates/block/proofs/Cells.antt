@@ -1,249 +1,273 @@
--- What is written of a place is read back as that place, in a machine of either kind.
+-- What is written of a place is read back as that place: its numbers are known, and each is read as the place that it was written for.
 use Prim.Native.Nat.{ℕ}
 use mathlib.Core.Path.{_≡_, refl, ap, _∙_}
 use mathlib.Core.Bool.{true}
 use lib.Dec.{ltb}
 use Rattle.words.specs.Word.{orb}
-use Rattle.tables.specs.Rule as R
-use Rattle.tables.specs.Errand as G
-use Rattle.tables.specs.LifoPlace as L
-use Rattle.tables.specs.FifoPlace as F
-use Rattle.tables.specs.Place as P
+use Rattle.tables.specs.declared.call.Rule.{Rule}
+use Rattle.tables.specs.declared.call.Rule.the-variants as Rule
+use Rattle.tables.specs.declared.place.BookPlace.{BookPlace}
+use Rattle.tables.specs.declared.place.BookPlace.the-variants as BookPlace
+use Rattle.tables.specs.declared.place.BookedTokens.{BookedTokens}
+use Rattle.tables.specs.declared.place.BookingCall.{BookingCall}
+use Rattle.tables.specs.declared.place.BookingCall.the-variants as BookingCall
+use Rattle.tables.specs.declared.place.ClosePlace.{ClosePlace}
+use Rattle.tables.specs.declared.place.ClosePlace.the-variants as ClosePlace
+use Rattle.tables.specs.declared.place.ClosingCall.{ClosingCall}
+use Rattle.tables.specs.declared.place.ClosingCall.the-variants as ClosingCall
+use Rattle.tables.specs.declared.place.FifoPlace.{FifoPlace}
+use Rattle.tables.specs.declared.place.FifoPlace.the-variants as FifoPlace
+use Rattle.tables.specs.declared.place.LifoPlace.{LifoPlace}
+use Rattle.tables.specs.declared.place.LifoPlace.the-variants as LifoPlace
+use Rattle.tables.specs.declared.place.MovePlace.{MovePlace}
+use Rattle.tables.specs.declared.place.MovePlace.the-variants as MovePlace
+use Rattle.tables.specs.declared.place.OwnPlace.{OwnPlace}
+use Rattle.tables.specs.declared.place.OwnPlace.the-variants as OwnPlace
+use Rattle.tables.specs.declared.place.OwnerCall.{OwnerCall}
+use Rattle.tables.specs.declared.place.OwnerCall.the-variants as OwnerCall
+use Rattle.tables.specs.declared.place.Place.{Place}
+use Rattle.tables.specs.declared.place.Place.the-variants as Place
+use Rattle.tables.specs.declared.place.RoomCall.{RoomCall}
+use Rattle.tables.specs.declared.place.RoomCall.the-variants as RoomCall
+use Rattle.tables.specs.declared.place.Transfer.{Transfer}
+use Rattle.tables.specs.declared.place.Transfer.the-variants as Transfer
+use Rattle.tables.specs.declared.place.TransferCall.{TransferCall}
 use Rattle.tables.specs.Step.{andb}
 use Rattle.tables.proofs.Bools.{pick-yes}
-use Rattle.block.specs.Cell.{ruleNumber, ruleCount, ruleOf, fillWhat, fillOf, haulTag, haulOf, errandWhat, errandOf, jobWhat, jobOf, goalWhat, goalDest, goalOf, endingWhat, endingCount, endingOf, lifoCell, lifoOf, fifoCell, fifoOf, ownCell, ownOf, bookCell, bookOf, moveCell, moveOf, closeCell, closeOf, cellOf, placeOf, booking, moving, tripOf, between, known, lacking, placeRead}
+use Rattle.block.specs.PlaceWords.{ruleNumber, ruleCount, ruleOf, ownerWords, ownerOf, transferTag, transferOf, transferWords, transferCallOf, roomWords, roomOf, bookingWords, bookingDestination, bookingOf, closingWords, closingCount, closingOf, lifoWords, lifoOf, fifoWords, fifoOf, ownWords, ownOf, bookWords, bookOf, moveWords, moveOf, closeWords, closeOf, wordsOf, placeOf, booking, moving, bookedOf, between, known, placeRead}
 
-rule-back : (r : R.Rule) → ruleOf (ruleNumber r) (ruleCount r) ≡ r
-rule-back R.all = refl
-rule-back R.half = refl
-rule-back (R.fixed k) = refl
-rule-back R.given = refl
+rule-back : (r : Rule) → ruleOf (ruleNumber r) (ruleCount r) ≡ r
+rule-back Rule.All = refl
+rule-back Rule.Half = refl
+rule-back (Rule.Fixed k) = refl
+rule-back Rule.Given = refl
 
-fill-back : (f : G.Fill) → fillOf (fillWhat f) ≡ f
-fill-back (G.push t) = refl
-fill-back G.extend = refl
-fill-back G.spare = refl
+owner-back : (f : OwnerCall) → ownerOf (ownerWords f) ≡ f
+owner-back (OwnerCall.Push t) = refl
+owner-back OwnerCall.Extend = refl
+owner-back OwnerCall.Spare = refl
 
-haul-back : (h : G.Haul) → haulOf (haulTag h) ≡ h
-haul-back G.steals = refl
-haul-back G.takes = refl
+transfer-back : (h : Transfer) → transferOf (transferTag h) ≡ h
+transfer-back Transfer.Steal = refl
+transfer-back Transfer.Take = refl
 
-errand-back : (e : G.Errand) → errandOf (errandWhat e) ≡ e
-errand-back e = λ i. record { source = e .source; rule = rule-back (e .rule) i; haul = haul-back (e .haul) i }
+call-back : (e : TransferCall) → transferCallOf (transferWords e) ≡ e
+call-back e = λ i. record { source = e .source; rule = rule-back (e .rule) i; transfer = transfer-back (e .transfer) i }
 
-job-back : (j : G.Job) → jobOf (jobWhat j) ≡ j
-job-back (G.fills (G.push t)) = refl
-job-back (G.fills G.extend) = refl
-job-back (G.fills G.spare) = refl
-job-back (G.brings e) = brought (e .haul)
+room-back : (j : RoomCall) → roomOf (roomWords j) ≡ j
+room-back (RoomCall.Owner (OwnerCall.Push t)) = refl
+room-back (RoomCall.Owner OwnerCall.Extend) = refl
+room-back (RoomCall.Owner OwnerCall.Spare) = refl
+room-back (RoomCall.Transfer e) = brought (e .transfer)
   where
-    brought : (h : G.Haul) → jobOf (errandWhat (record { source = e .source; rule = e .rule; haul = h })) ≡ G.brings (record { source = e .source; rule = e .rule; haul = h })
-    brought G.steals = ap G.brings (errand-back (record { source = e .source; rule = e .rule; haul = G.steals }))
-    brought G.takes = ap G.brings (errand-back (record { source = e .source; rule = e .rule; haul = G.takes }))
+    brought : (h : Transfer) → roomOf (transferWords (record { source = e .source; rule = e .rule; transfer = h })) ≡ RoomCall.Transfer (record { source = e .source; rule = e .rule; transfer = h })
+    brought Transfer.Steal = ap RoomCall.Transfer (call-back (record { source = e .source; rule = e .rule; transfer = Transfer.Steal }))
+    brought Transfer.Take = ap RoomCall.Transfer (call-back (record { source = e .source; rule = e .rule; transfer = Transfer.Take }))
 
 -- ---- the numbers written are a place's
 
-rule-known : (r : R.Rule) → ltb (ruleNumber r) 4 ≡ true
-rule-known R.all = refl
-rule-known R.half = refl
-rule-known (R.fixed k) = refl
-rule-known R.given = refl
+rule-known : (r : Rule) → ltb (ruleNumber r) 4 ≡ true
+rule-known Rule.All = refl
+rule-known Rule.Half = refl
+rule-known (Rule.Fixed k) = refl
+rule-known Rule.Given = refl
 
-errand-known : (h : G.Haul) (r : R.Rule) → andb (between 3 5 (haulTag h)) (ltb (ruleNumber r) 4) ≡ true
-errand-known G.steals r = rule-known r
-errand-known G.takes r = rule-known r
+call-known : (h : Transfer) (r : Rule) → andb (between 3 5 (transferTag h)) (ltb (ruleNumber r) 4) ≡ true
+call-known Transfer.Steal r = rule-known r
+call-known Transfer.Take r = rule-known r
 
-job-known : (j : G.Job) → andb (ltb (jobWhat j .tag) 5) (ltb (jobWhat j .rule) 4) ≡ true
-job-known (G.fills (G.push t)) = refl
-job-known (G.fills G.extend) = refl
-job-known (G.fills G.spare) = refl
-job-known (G.brings e) = brought (e .haul)
+room-known : (j : RoomCall) → andb (ltb (roomWords j .tag) 5) (ltb (roomWords j .rule) 4) ≡ true
+room-known (RoomCall.Owner (OwnerCall.Push t)) = refl
+room-known (RoomCall.Owner OwnerCall.Extend) = refl
+room-known (RoomCall.Owner OwnerCall.Spare) = refl
+room-known (RoomCall.Transfer e) = brought (e .transfer)
   where
-    brought : (h : G.Haul) → andb (ltb (haulTag h) 5) (ltb (ruleNumber (e .rule)) 4) ≡ true
-    brought G.steals = rule-known (e .rule)
-    brought G.takes = rule-known (e .rule)
+    brought : (h : Transfer) → andb (ltb (transferTag h) 5) (ltb (ruleNumber (e .rule)) 4) ≡ true
+    brought Transfer.Steal = rule-known (e .rule)
+    brought Transfer.Take = rule-known (e .rule)
 
-fill-known : (f : G.Fill) → ltb (fillWhat f .tag) 3 ≡ true
-fill-known (G.push t) = refl
-fill-known G.extend = refl
-fill-known G.spare = refl
+owner-known : (f : OwnerCall) → ltb (ownerWords f .tag) 3 ≡ true
+owner-known (OwnerCall.Push t) = refl
+owner-known OwnerCall.Extend = refl
+owner-known OwnerCall.Spare = refl
 
-goal-known : (g : G.Goal) → andb (between 3 6 (goalWhat g .tag)) (ltb (goalWhat g .rule) 4) ≡ true
-goal-known (G.haul e d) = brought (e .haul)
+booking-known : (g : BookingCall) → andb (between 3 6 (bookingWords g .tag)) (ltb (bookingWords g .rule) 4) ≡ true
+booking-known (BookingCall.Transfer e d) = brought (e .transfer)
   where
-    brought : (h : G.Haul) → andb (between 3 6 (haulTag h)) (ltb (ruleNumber (e .rule)) 4) ≡ true
-    brought G.steals = rule-known (e .rule)
-    brought G.takes = rule-known (e .rule)
-goal-known (G.drain r) = rule-known r
+    brought : (h : Transfer) → andb (between 3 6 (transferTag h)) (ltb (ruleNumber (e .rule)) 4) ≡ true
+    brought Transfer.Steal = rule-known (e .rule)
+    brought Transfer.Take = rule-known (e .rule)
+booking-known (BookingCall.Drain r) = rule-known r
 
-trip-known : (h : G.Haul) → between 3 5 (haulTag h) ≡ true
-trip-known G.steals = refl
-trip-known G.takes = refl
+booked-known : (h : Transfer) → between 3 5 (transferTag h) ≡ true
+booked-known Transfer.Steal = refl
+booked-known Transfer.Take = refl
 
-ending-known : (e : G.Ending) → orb (between 3 5 (endingWhat e .tag)) (between 6 8 (endingWhat e .tag)) ≡ true
-ending-known (G.stolen s k) = refl
-ending-known (G.taken s t k) = refl
-ending-known (G.item t) = refl
-ending-known G.dropped = refl
+closing-known : (e : ClosingCall) → orb (between 3 5 (closingWords e .tag)) (between 6 8 (closingWords e .tag)) ≡ true
+closing-known (ClosingCall.Steal s k) = refl
+closing-known (ClosingCall.Take s t k) = refl
+closing-known (ClosingCall.Next t) = refl
+closing-known ClosingCall.Drop = refl
 
-lifo-known : (p : L.LifoPlace) → known (lifoCell p) ≡ true
+lifo-known : (p : LifoPlace) → known (lifoWords p) ≡ true
 unfolding known
-lifo-known (L.loadCount j) = job-known j
-lifo-known (L.loadPacked j n) = job-known j
-lifo-known (L.loadDone j n p) = job-known j
-lifo-known L.popPacked = refl
-lifo-known (L.popCount p) = refl
-lifo-known (L.popCas p t) = refl
-lifo-known L.emptyCount = refl
-lifo-known (L.emptyPacked n) = refl
+lifo-known (LifoPlace.LoadPushes j) = room-known j
+lifo-known (LifoPlace.LoadPacked j n) = room-known j
+lifo-known (LifoPlace.LoadCompleted j n p) = room-known j
+lifo-known LifoPlace.PopPacked = refl
+lifo-known (LifoPlace.PopPushes p) = refl
+lifo-known (LifoPlace.PopCas p t) = refl
+lifo-known LifoPlace.EmptyPushes = refl
+lifo-known (LifoPlace.EmptyPacked n) = refl
 
-fifo-known : (p : F.FifoPlace) → known (fifoCell p) ≡ true
+fifo-known : (p : FifoPlace) → known (fifoWords p) ≡ true
 unfolding known
-fifo-known (F.loadPacked f) = fill-known f
-fifo-known (F.loadTail f p) = fill-known f
-fifo-known (F.destTail e) = errand-known (e .haul) (e .rule)
-fifo-known (F.destPacked e t) = errand-known (e .haul) (e .rule)
-fifo-known F.popPacked = refl
-fifo-known (F.popTail p) = refl
-fifo-known (F.popCas p) = refl
-fifo-known F.emptyPacked = refl
-fifo-known (F.emptyTail p) = refl
+fifo-known (FifoPlace.LoadPacked f) = owner-known f
+fifo-known (FifoPlace.LoadTail f p) = owner-known f
+fifo-known (FifoPlace.DestTail e) = call-known (e .transfer) (e .rule)
+fifo-known (FifoPlace.DestPacked e t) = call-known (e .transfer) (e .rule)
+fifo-known FifoPlace.PopPacked = refl
+fifo-known (FifoPlace.PopTail p) = refl
+fifo-known (FifoPlace.PopCas p) = refl
+fifo-known FifoPlace.EmptyPacked = refl
+fifo-known (FifoPlace.EmptyTail p) = refl
 
-own-known : (p : P.OwnPlace) → known (ownCell p) ≡ true
+own-known : (p : OwnPlace) → known (ownWords p) ≡ true
 unfolding known
-own-known (P.pushWrite t w n) = refl
-own-known (P.pushStore w) = refl
-own-known (P.extendMore p t l w) = refl
-own-known (P.extendStore p t w) = refl
-own-known (P.popRead a) = refl
-own-known P.nextItem = refl
-own-known P.dropItem = refl
+own-known (OwnPlace.PushWrite t w n) = refl
+own-known (OwnPlace.PushStore w) = refl
+own-known (OwnPlace.ExtendMore p t l w) = refl
+own-known (OwnPlace.ExtendStore p t w) = refl
+own-known (OwnPlace.PopRead a) = refl
+own-known OwnPlace.NextItem = refl
+own-known OwnPlace.DropItem = refl
 
-book-known : (g : G.Goal) (p : P.BookPlace) → known (bookCell (goalWhat g) (goalDest g) p) ≡ true
+book-known : (g : BookingCall) (p : BookPlace) → known (bookWords (bookingWords g) (bookingDestination g) p) ≡ true
 unfolding known
-book-known g P.lifoPacked = goal-known g
-book-known g (P.lifoDone p) = goal-known g
-book-known g (P.lifoCount p d) = goal-known g
-book-known g (P.lifoCas p d n) = goal-known g
-book-known g P.fifoPacked = goal-known g
-book-known g (P.fifoTail p) = goal-known g
-book-known g (P.fifoCas p n) = goal-known g
+book-known g BookPlace.LifoPacked = booking-known g
+book-known g (BookPlace.LifoCompleted p) = booking-known g
+book-known g (BookPlace.LifoPushes p d) = booking-known g
+book-known g (BookPlace.LifoCas p d n) = booking-known g
+book-known g BookPlace.FifoPacked = booking-known g
+book-known g (BookPlace.FifoTail p) = booking-known g
+book-known g (BookPlace.FifoCas p n) = booking-known g
 
-move-known : (p : P.MovePlace) → known (moveCell p) ≡ true
+move-known : (p : MovePlace) → known (moveWords p) ≡ true
 unfolding known
-move-known (P.readSlot t m) = trip-known (t .haul)
-move-known (P.writeSlot t m n) = trip-known (t .haul)
-move-known (P.land t n) = trip-known (t .haul)
+move-known (MovePlace.ReadSlot t m) = booked-known (t .transfer)
+move-known (MovePlace.WriteSlot t m n) = booked-known (t .transfer)
+move-known (MovePlace.Land t n) = booked-known (t .transfer)
 
-close-known : (e : G.Ending) (p : P.ClosePlace) → known (closeCell e p) ≡ true
+close-known : (e : ClosingCall) (p : ClosePlace) → known (closeWords e p) ≡ true
 unfolding known
-close-known e (P.storeDone h) = ending-known e
-close-known e P.loadHeads = ending-known e
-close-known e (P.casHeads p) = ending-known e
+close-known e (ClosePlace.StoreCompleted h) = closing-known e
+close-known e ClosePlace.LoadHeads = closing-known e
+close-known e (ClosePlace.CasHeads p) = closing-known e
 
-place-known : (p : P.Place) → known (cellOf p) ≡ true
-unfolding known cellOf
-place-known P.idle = refl
-place-known (P.lifo p) = lifo-known p
-place-known (P.fifo p) = fifo-known p
-place-known (P.own p) = own-known p
-place-known (P.book g p) = book-known g p
-place-known (P.move p) = move-known p
-place-known (P.close e p) = close-known e p
+place-known : (p : Place) → known (wordsOf p) ≡ true
+unfolding known wordsOf
+place-known Place.Idle = refl
+place-known (Place.Lifo p) = lifo-known p
+place-known (Place.Fifo p) = fifo-known p
+place-known (Place.Own p) = own-known p
+place-known (Place.Book g p) = book-known g p
+place-known (Place.Move p) = move-known p
+place-known (Place.Close e p) = close-known e p
 
 -- ---- and are read back
 
-lifo-back : (p : L.LifoPlace) → placeOf (lifoCell p) ≡ P.lifo p
+lifo-back : (p : LifoPlace) → placeOf (lifoWords p) ≡ Place.Lifo p
 unfolding placeOf lifoOf
-lifo-back (L.loadCount j) = ap (λ (x : G.Job). P.lifo (L.loadCount x)) (job-back j)
-lifo-back (L.loadPacked j n) = ap (λ (x : G.Job). P.lifo (L.loadPacked x n)) (job-back j)
-lifo-back (L.loadDone j n p) = ap (λ (x : G.Job). P.lifo (L.loadDone x n p)) (job-back j)
-lifo-back L.popPacked = refl
-lifo-back (L.popCount p) = refl
-lifo-back (L.popCas p t) = refl
-lifo-back L.emptyCount = refl
-lifo-back (L.emptyPacked n) = refl
+lifo-back (LifoPlace.LoadPushes j) = ap (λ (x : RoomCall). Place.Lifo (LifoPlace.LoadPushes x)) (room-back j)
+lifo-back (LifoPlace.LoadPacked j n) = ap (λ (x : RoomCall). Place.Lifo (LifoPlace.LoadPacked x n)) (room-back j)
+lifo-back (LifoPlace.LoadCompleted j n p) = ap (λ (x : RoomCall). Place.Lifo (LifoPlace.LoadCompleted x n p)) (room-back j)
+lifo-back LifoPlace.PopPacked = refl
+lifo-back (LifoPlace.PopPushes p) = refl
+lifo-back (LifoPlace.PopCas p t) = refl
+lifo-back LifoPlace.EmptyPushes = refl
+lifo-back (LifoPlace.EmptyPacked n) = refl
 
-fifo-back : (p : F.FifoPlace) → placeOf (fifoCell p) ≡ P.fifo p
+fifo-back : (p : FifoPlace) → placeOf (fifoWords p) ≡ Place.Fifo p
 unfolding placeOf fifoOf
-fifo-back (F.loadPacked f) = ap (λ (x : G.Fill). P.fifo (F.loadPacked x)) (fill-back f)
-fifo-back (F.loadTail f p) = ap (λ (x : G.Fill). P.fifo (F.loadTail x p)) (fill-back f)
-fifo-back (F.destTail e) = ap (λ (x : G.Errand). P.fifo (F.destTail x)) (errand-back e)
-fifo-back (F.destPacked e t) = ap (λ (x : G.Errand). P.fifo (F.destPacked x t)) (errand-back e)
-fifo-back F.popPacked = refl
-fifo-back (F.popTail p) = refl
-fifo-back (F.popCas p) = refl
-fifo-back F.emptyPacked = refl
-fifo-back (F.emptyTail p) = refl
+fifo-back (FifoPlace.LoadPacked f) = ap (λ (x : OwnerCall). Place.Fifo (FifoPlace.LoadPacked x)) (owner-back f)
+fifo-back (FifoPlace.LoadTail f p) = ap (λ (x : OwnerCall). Place.Fifo (FifoPlace.LoadTail x p)) (owner-back f)
+fifo-back (FifoPlace.DestTail e) = ap (λ (x : TransferCall). Place.Fifo (FifoPlace.DestTail x)) (call-back e)
+fifo-back (FifoPlace.DestPacked e t) = ap (λ (x : TransferCall). Place.Fifo (FifoPlace.DestPacked x t)) (call-back e)
+fifo-back FifoPlace.PopPacked = refl
+fifo-back (FifoPlace.PopTail p) = refl
+fifo-back (FifoPlace.PopCas p) = refl
+fifo-back FifoPlace.EmptyPacked = refl
+fifo-back (FifoPlace.EmptyTail p) = refl
 
-own-back : (p : P.OwnPlace) → placeOf (ownCell p) ≡ P.own p
+own-back : (p : OwnPlace) → placeOf (ownWords p) ≡ Place.Own p
 unfolding placeOf ownOf
-own-back (P.pushWrite t w n) = refl
-own-back (P.pushStore w) = refl
-own-back (P.extendMore p t l w) = refl
-own-back (P.extendStore p t w) = refl
-own-back (P.popRead a) = refl
-own-back P.nextItem = refl
-own-back P.dropItem = refl
+own-back (OwnPlace.PushWrite t w n) = refl
+own-back (OwnPlace.PushStore w) = refl
+own-back (OwnPlace.ExtendMore p t l w) = refl
+own-back (OwnPlace.ExtendStore p t w) = refl
+own-back (OwnPlace.PopRead a) = refl
+own-back OwnPlace.NextItem = refl
+own-back OwnPlace.DropItem = refl
 
-goal-back : (g : G.Goal) (row packed done count : ℕ) → goalOf (booking (goalWhat g) (goalDest g) row packed done count) ≡ g
-unfolding goalOf
-goal-back (G.haul e d) row packed done count = brought (e .haul)
+booking-back : (g : BookingCall) (row packed done count : ℕ) → bookingOf (booking (bookingWords g) (bookingDestination g) row packed done count) ≡ g
+unfolding bookingOf
+booking-back (BookingCall.Transfer e d) row packed done count = brought (e .transfer)
   where
-    brought : (h : G.Haul) → goalOf (booking (errandWhat (record { source = e .source; rule = e .rule; haul = h })) d row packed done count) ≡ G.haul (record { source = e .source; rule = e .rule; haul = h }) d
-    brought G.steals = ap (λ (x : G.Errand). G.haul x d) (errand-back (record { source = e .source; rule = e .rule; haul = G.steals }))
-    brought G.takes = ap (λ (x : G.Errand). G.haul x d) (errand-back (record { source = e .source; rule = e .rule; haul = G.takes }))
-goal-back (G.drain r) row packed done count = ap G.drain (rule-back r)
+    brought : (h : Transfer) → bookingOf (booking (transferWords (record { source = e .source; rule = e .rule; transfer = h })) d row packed done count) ≡ BookingCall.Transfer
+        (record { source = e .source; rule = e .rule; transfer = h }) d
+    brought Transfer.Steal = ap (λ (x : TransferCall). BookingCall.Transfer x d) (call-back (record { source = e .source; rule = e .rule; transfer = Transfer.Steal }))
+    brought Transfer.Take = ap (λ (x : TransferCall). BookingCall.Transfer x d) (call-back (record { source = e .source; rule = e .rule; transfer = Transfer.Take }))
+booking-back (BookingCall.Drain r) row packed done count = ap BookingCall.Drain (rule-back r)
 
-book-back : (g : G.Goal) (p : P.BookPlace) → placeOf (bookCell (goalWhat g) (goalDest g) p) ≡ P.book g p
+book-back : (g : BookingCall) (p : BookPlace) → placeOf (bookWords (bookingWords g) (bookingDestination g) p) ≡ Place.Book g p
 unfolding placeOf bookOf
-book-back g P.lifoPacked = ap (λ (x : G.Goal). P.book x P.lifoPacked) (goal-back g 0 0 0 0)
-book-back g (P.lifoDone p) = ap (λ (x : G.Goal). P.book x (P.lifoDone p)) (goal-back g 1 p 0 0)
-book-back g (P.lifoCount p d) = ap (λ (x : G.Goal). P.book x (P.lifoCount p d)) (goal-back g 2 p d 0)
-book-back g (P.lifoCas p d n) = ap (λ (x : G.Goal). P.book x (P.lifoCas p d n)) (goal-back g 3 p d n)
-book-back g P.fifoPacked = ap (λ (x : G.Goal). P.book x P.fifoPacked) (goal-back g 4 0 0 0)
-book-back g (P.fifoTail p) = ap (λ (x : G.Goal). P.book x (P.fifoTail p)) (goal-back g 5 p 0 0)
-book-back g (P.fifoCas p n) = ap (λ (x : G.Goal). P.book x (P.fifoCas p n)) (goal-back g 6 p 0 n)
+book-back g BookPlace.LifoPacked = ap (λ (x : BookingCall). Place.Book x BookPlace.LifoPacked) (booking-back g 0 0 0 0)
+book-back g (BookPlace.LifoCompleted p) = ap (λ (x : BookingCall). Place.Book x (BookPlace.LifoCompleted p)) (booking-back g 1 p 0 0)
+book-back g (BookPlace.LifoPushes p d) = ap (λ (x : BookingCall). Place.Book x (BookPlace.LifoPushes p d)) (booking-back g 2 p d 0)
+book-back g (BookPlace.LifoCas p d n) = ap (λ (x : BookingCall). Place.Book x (BookPlace.LifoCas p d n)) (booking-back g 3 p d n)
+book-back g BookPlace.FifoPacked = ap (λ (x : BookingCall). Place.Book x BookPlace.FifoPacked) (booking-back g 4 0 0 0)
+book-back g (BookPlace.FifoTail p) = ap (λ (x : BookingCall). Place.Book x (BookPlace.FifoTail p)) (booking-back g 5 p 0 0)
+book-back g (BookPlace.FifoCas p n) = ap (λ (x : BookingCall). Place.Book x (BookPlace.FifoCas p n)) (booking-back g 6 p 0 n)
 
-trip-back : (t : G.Trip) (row token moved : ℕ) → tripOf (moving t row token moved) ≡ t
-trip-back t row token moved = λ i. record {
+booked-back : (t : BookedTokens) (row token moved : ℕ) → bookedOf (moving t row token moved) ≡ t
+booked-back t row token moved = λ i. record {
   source = t .source;
-  haul = haul-back (t .haul) i;
+  transfer = transfer-back (t .transfer) i;
   word = t .word;
   tail = t .tail;
   from = t .from;
   count = t .count;
 }
 
-move-back : (p : P.MovePlace) → placeOf (moveCell p) ≡ P.move p
+move-back : (p : MovePlace) → placeOf (moveWords p) ≡ Place.Move p
 unfolding placeOf moveOf
-move-back (P.readSlot t m) = ap (λ (x : G.Trip). P.move (P.readSlot x m)) (trip-back t 0 0 m)
-move-back (P.writeSlot t m n) = ap (λ (x : G.Trip). P.move (P.writeSlot x m n)) (trip-back t 1 n m)
-move-back (P.land t n) = ap (λ (x : G.Trip). P.move (P.land x n)) (trip-back t 2 n 0)
+move-back (MovePlace.ReadSlot t m) = ap (λ (x : BookedTokens). Place.Move (MovePlace.ReadSlot x m)) (booked-back t 0 0 m)
+move-back (MovePlace.WriteSlot t m n) = ap (λ (x : BookedTokens). Place.Move (MovePlace.WriteSlot x m n)) (booked-back t 1 n m)
+move-back (MovePlace.Land t n) = ap (λ (x : BookedTokens). Place.Move (MovePlace.Land x n)) (booked-back t 2 n 0)
 
-ending-back : (e : G.Ending) → endingOf (endingWhat e) (endingCount e) ≡ e
-unfolding endingOf
-ending-back (G.stolen s k) = refl
-ending-back (G.taken s t k) = refl
-ending-back (G.item t) = refl
-ending-back G.dropped = refl
+closing-back : (e : ClosingCall) → closingOf (closingWords e) (closingCount e) ≡ e
+unfolding closingOf
+closing-back (ClosingCall.Steal s k) = refl
+closing-back (ClosingCall.Take s t k) = refl
+closing-back (ClosingCall.Next t) = refl
+closing-back ClosingCall.Drop = refl
 
-close-back : (e : G.Ending) (p : P.ClosePlace) → placeOf (closeCell e p) ≡ P.close e p
+close-back : (e : ClosingCall) (p : ClosePlace) → placeOf (closeWords e p) ≡ Place.Close e p
 unfolding placeOf closeOf
-close-back e (P.storeDone h) = ap (λ (x : G.Ending). P.close x (P.storeDone h)) (ending-back e)
-close-back e P.loadHeads = ap (λ (x : G.Ending). P.close x P.loadHeads) (ending-back e)
-close-back e (P.casHeads p) = ap (λ (x : G.Ending). P.close x (P.casHeads p)) (ending-back e)
+close-back e (ClosePlace.StoreCompleted h) = ap (λ (x : ClosingCall). Place.Close x (ClosePlace.StoreCompleted h)) (closing-back e)
+close-back e ClosePlace.LoadHeads = ap (λ (x : ClosingCall). Place.Close x ClosePlace.LoadHeads) (closing-back e)
+close-back e (ClosePlace.CasHeads p) = ap (λ (x : ClosingCall). Place.Close x (ClosePlace.CasHeads p)) (closing-back e)
 
-place-back : (p : P.Place) → placeOf (cellOf p) ≡ p
-unfolding placeOf cellOf
-place-back P.idle = refl
-place-back (P.lifo p) = lifo-back p
-place-back (P.fifo p) = fifo-back p
-place-back (P.own p) = own-back p
-place-back (P.book g p) = book-back g p
-place-back (P.move p) = move-back p
-place-back (P.close e p) = close-back e p
+place-back : (p : Place) → placeOf (wordsOf p) ≡ p
+unfolding placeOf wordsOf
+place-back Place.Idle = refl
+place-back (Place.Lifo p) = lifo-back p
+place-back (Place.Fifo p) = fifo-back p
+place-back (Place.Own p) = own-back p
+place-back (Place.Book g p) = book-back g p
+place-back (Place.Move p) = move-back p
+place-back (Place.Close e p) = close-back e p
 
-pub read-back : (k : R.Kind) (p : P.Place) → placeRead k (cellOf p) ≡ p
+pub read-back : (p : Place) → placeRead (wordsOf p) ≡ p
 unfolding placeRead
-read-back k p = pick-yes (known (cellOf p)) (placeOf (cellOf p)) (lacking k) (place-known p) ∙ place-back p
+read-back p = pick-yes (known (wordsOf p)) (placeOf (wordsOf p)) _ (place-known p) ∙ place-back p

@@ -1,6 +1,6 @@
 pub mod Cells
 pub mod Words
-pub mod Held
+pub mod Limits
 pub mod Sealed
 pub mod Tables
 pub mod Machines

@@ -6,16 +6,17 @@ use mathlib.Core.Logic.{⊎-elim}
 use native.Mathlib.Omega.{arith}
 use borrow.Author.Tests.{lt-ltb, le-ltb}
 use lib.Dec.{ltb}
-use lib.ListN.{length, getD, set}
+use lib.ListN.{length, getD, set, drop}
 use lib.Seq.{ext-getD, getD-set-same, getD-set-other}
-use Rattle.tables.specs.Rule.{Kind}
-use Rattle.tables.specs.Step.{Opened, opening}
+use Rattle.tables.specs.declared.state.Kind.{Kind}
+use Rattle.tables.specs.declared.state.Opened.{Opened}
+use Rattle.tables.specs.Step.{opening}
 use Rattle.tables.proofs.Bools.{pick-yes, pick-no, equal-or-not}
 use Rattle.tables.proofs.Refused.{opening-if, open-needs}
-use Rattle.machine.specs.View.{everyKind}
-use Rattle.block.specs.Block.{size, table, kindOf, noReply}
-use Rattle.block.specs.Held.{Held, heldIn}
-use Rattle.block.specs.Opening.{firstOf, asked, LeftAt, leftAt, openedAs, opened}
+use Rattle.tables.specs.Step.{everyKind}
+use Rattle.block.specs.Block.{size, table, kindOf}
+use Rattle.block.specs.Contents.{Contents, contentsIn}
+use Rattle.block.specs.Opening.{firstOf, asked, LeftAt, leftAt, fresh, openedAs, opened}
 use Rattle.block.proofs.Tables.{table-length, entry}
 
 -- the first i are there
@@ -42,18 +43,18 @@ module _ (w most : ℕ) (xs : List ℕ) (kind parties : ℕ) (rs ps : List ℕ) 
   abbrev whole : LeftAt
   whole = opened w most xs kind parties rs ps lent
 
-  pub open-short : length xs < size most → leftAt 1 (heldIn w most xs) ≡ whole
+  pub open-short : length xs < size most → leftAt 1 (contentsIn w most xs) ≡ whole
   unfolding opened
   open-short h = sym (pick-yes (ltb (length xs) (size most)) _ _ (lt-ltb _ _ h))
 
-  pub open-kindless : size most ≤ length xs → 1 < kind → leftAt 1 (heldIn w most xs) ≡ whole
+  pub open-kindless : size most ≤ length xs → 1 < kind → leftAt 1 (contentsIn w most xs) ≡ whole
   unfolding opened
   open-kindless h k = sym (pick-no (ltb (length xs) (size most)) _ _ (le-ltb _ _ h) ∙ pick-yes (ltb 1 kind) _ _ (lt-ltb _ _ k))
 
   pub open-done : size most ≤ length xs → kind ≤ 1 → {k : Kind} {n : ℕ} {qs os : List ℕ} → k ≡ kindOf kind → n ≡ asked parties (length rs) (length ps) → qs ≡ firstOf most rs → os ≡ firstOf most ps
-      → {o : Opened} {h : Held} → o ≡ opening w most (everyKind most k) n qs os lent → h ≡ record { machine = o .machine; reply = noReply } → leftAt (o .refusal) h ≡ whole
+      → {o : Opened} {h : Contents} → o ≡ opening w most (everyKind most k) n qs os lent → h ≡ fresh (drop (size most) xs) (o .machine) → leftAt (o .refusal) h ≡ whole
   unfolding opened
   open-done h le ek en eq eo {o} e eh =
       ap (leftAt (o .refusal)) eh
-      ∙ ap openedAs (e ∙ (λ i. opening w most (everyKind most (ek i)) (en i) (eq i) (eo i) lent))
+      ∙ ap (openedAs (drop (size most) xs)) (e ∙ (λ i. opening w most (everyKind most (ek i)) (en i) (eq i) (eo i) lent))
       ∙ sym (pick-no (ltb (length xs) (size most)) _ _ (le-ltb _ _ h) ∙ pick-no (ltb 1 kind) _ _ (le-ltb _ _ le))

@@ -5,16 +5,19 @@ use mathlib.Core.List.{List, [], _∷_, _++_, append-assoc}
 use native.Mathlib.Numerals.{add-one}
 use native.Mathlib.Omega.{arith}
 use native.Mathlib.Nat.{mod-eq-of-lt}
-use lib.ListN.{length, getD, set, take, drop}
-use lib.Seq.{getD-take, getD-drop, paste, paste-suc, length-paste, take-length}
+use lib.ListN.{length, getD, set, take, drop, length-drop}
+use lib.Seq.{getD-take, getD-drop, paste, paste-suc, length-paste, take-length, take-all}
 use Rattle.words.specs.Word.{packed, high, low, Unpacked}
 use Rattle.words.proofs.Laws.{high-packed, low-packed}
-use Rattle.tables.specs.Rule.{Kind}
-use Rattle.tables.specs.Machine as M
+use Rattle.tables.specs.declared.state.Drain.{Drain}
+use Rattle.tables.specs.declared.state.Kind.{Kind}
+use Rattle.tables.specs.declared.state.Kind.the-variants as Kind
+use Rattle.tables.specs.declared.state.Queue.{Queue}
 use Rattle.tables.specs.Machine.{stretch, restretched}
-use Rattle.block.specs.declared.Cell.{Cell}
-use Rattle.block.specs.Cell.{what, cell}
-use Rattle.block.specs.Block.{seatWords, cellFrom, drainFrom, queueWords, queueFrom}
+use Rattle.tables.proofs.Bases.{restretched-length, stretch-after}
+use Rattle.block.specs.declared.PlaceWords.{PlaceWords}
+use Rattle.block.specs.PlaceWords.{callWords, placeWords}
+use Rattle.block.specs.Block.{partySize, queueSize, kindOf, kindNumber, partyWords, wordsFrom, drainFrom, queueWords, queueFrom}
 
 -- a word of a stretch is the block's own
 pub in-stretch : (xs : List ℕ) (at n j : ℕ) → j < n → getD xs (at + j) 0 ≡ getD (stretch at n xs) j 0
@@ -25,68 +28,72 @@ first-in-stretch xs at n h = let e : at ≡ at + 0 = omega arith in ap (λ (k : 
 
 module _ (w : ℕ) (xs : List ℕ) (at : ℕ) where
   pub cell-is : {a b c d y e : ℕ} → Unpacked w (getD xs (at + 7) 0) a b → Unpacked w (getD xs (at + 8) 0) c d → Unpacked w (getD xs (at + 9) 0) y e
-      → cell (getD xs at 0) (getD xs (at + 1) 0) (what (getD xs (at + 2) 0) (getD xs (at + 3) 0) (getD xs (at + 4) 0) (getD xs (at + 5) 0)) (getD xs (at + 6) 0) a b c d e
-      ≡ cellFrom w (stretch at 11 xs)
+      → placeWords (getD xs at 0) (getD xs (at + 1) 0) (callWords (getD xs (at + 2) 0) (getD xs (at + 3) 0) (getD xs (at + 4) 0) (getD xs (at + 5) 0)) (getD xs (at + 6) 0) a b c d e
+      ≡ wordsFrom w (stretch at partySize xs)
   cell-is {a} {b} {c} {d} {y} {e} first second third = λ i. record {
-    role = first-in-stretch xs at 11 (omega arith) i;
-    row = in-stretch xs at 11 1 (omega arith) i;
-    what = record {
-      tag = in-stretch xs at 11 2 (omega arith) i;
-      rule = in-stretch xs at 11 3 (omega arith) i;
-      source = in-stretch xs at 11 4 (omega arith) i;
-      number = in-stretch xs at 11 5 (omega arith) i;
+    role = first-in-stretch xs at partySize (omega arith) i;
+    row = in-stretch xs at partySize 1 (omega arith) i;
+    call = record {
+      tag = in-stretch xs at partySize 2 (omega arith) i;
+      rule = in-stretch xs at partySize 3 (omega arith) i;
+      source = in-stretch xs at partySize 4 (omega arith) i;
+      number = in-stretch xs at partySize 5 (omega arith) i;
     };
-    packed = in-stretch xs at 11 6 (omega arith) i;
-    a = (first .high-is ∙ ap (high w) (in-stretch xs at 11 7 (omega arith))) i;
-    b = (first .low-is ∙ ap (low w) (in-stretch xs at 11 7 (omega arith))) i;
-    c = (second .high-is ∙ ap (high w) (in-stretch xs at 11 8 (omega arith))) i;
-    d = (second .low-is ∙ ap (low w) (in-stretch xs at 11 8 (omega arith))) i;
-    e = (third .low-is ∙ ap (low w) (in-stretch xs at 11 9 (omega arith))) i;
+    packed = in-stretch xs at partySize 6 (omega arith) i;
+    first = (first .high-is ∙ ap (high w) (in-stretch xs at partySize 7 (omega arith))) i;
+    second = (first .low-is ∙ ap (low w) (in-stretch xs at partySize 7 (omega arith))) i;
+    third = (second .high-is ∙ ap (high w) (in-stretch xs at partySize 8 (omega arith))) i;
+    fourth = (second .low-is ∙ ap (low w) (in-stretch xs at partySize 8 (omega arith))) i;
+    fifth = (third .low-is ∙ ap (low w) (in-stretch xs at partySize 9 (omega arith))) i;
   }
 
-  pub drain-is : {a b : ℕ} → Unpacked w (getD xs (at + 10) 0) a b → _≡_ {A = M.Drain} (record { at = a; end = b }) (drainFrom w (stretch at 11 xs))
+  pub drain-is : {a b : ℕ} → Unpacked w (getD xs (at + 10) 0) a b → _≡_ {A = Drain} (record { at = a; end = b }) (drainFrom w (stretch at partySize xs))
   drain-is both = λ i. record {
-    at = (both .high-is ∙ ap (high w) (in-stretch xs at 11 10 (omega arith))) i;
-    end = (both .low-is ∙ ap (low w) (in-stretch xs at 11 10 (omega arith))) i;
+    at = (both .high-is ∙ ap (high w) (in-stretch xs at partySize 10 (omega arith))) i;
+    end = (both .low-is ∙ ap (low w) (in-stretch xs at partySize 10 (omega arith))) i;
   }
 
-  pub queue-is : (k : Kind) {a b y e : ℕ} → Unpacked w (getD xs at 0) a b → Unpacked w (getD xs (at + 2) 0) y e
-      → _≡_ {A = M.Queue} (record { kind = k; capacity = a; count = b; packed = getD xs (at + 1) 0; done = e }) (queueFrom w k (stretch at 3 xs))
+  pub queue-is : {a b y e : ℕ} {k : Kind} → Unpacked w (getD xs at 0) a b → Unpacked w (getD xs (at + 2) 0) y e → k ≡ kindOf y
+      → _≡_ {A = Queue} (record { kind = k; capacity = a; pushes = b; packed = getD xs (at + 1) 0; completed = e }) (queueFrom w (stretch at queueSize xs))
   unfolding queueFrom
-  queue-is k first last = λ i. record {
-    kind = k;
-    capacity = (first .high-is ∙ ap (high w) (first-in-stretch xs at 3 (omega arith))) i;
-    count = (first .low-is ∙ ap (low w) (first-in-stretch xs at 3 (omega arith))) i;
-    packed = in-stretch xs at 3 1 (omega arith) i;
-    done = (last .low-is ∙ ap (low w) (in-stretch xs at 3 2 (omega arith))) i;
+  queue-is first last ek = λ i. record {
+    kind = (ek ∙ ap kindOf (last .high-is ∙ ap (high w) (in-stretch xs at queueSize 2 (omega arith)))) i;
+    capacity = (first .high-is ∙ ap (high w) (first-in-stretch xs at queueSize (omega arith))) i;
+    pushes = (first .low-is ∙ ap (low w) (first-in-stretch xs at queueSize (omega arith))) i;
+    packed = in-stretch xs at queueSize 1 (omega arith) i;
+    completed = (last .low-is ∙ ap (low w) (in-stretch xs at queueSize 2 (omega arith))) i;
   }
 
 -- ---- filed, and read back
 
-pub cell-back : (w : ℕ) (c : Cell) (d : M.Drain) → c .b < 2 ^ w → c .d < 2 ^ w → c .e < 2 ^ w → cellFrom w (seatWords w c d) ≡ c
+pub cell-back : (w : ℕ) (c : PlaceWords) (d : Drain) → c .second < 2 ^ w → c .fourth < 2 ^ w → c .fifth < 2 ^ w → wordsFrom w (partyWords w c d) ≡ c
 cell-back w c d fb fd fe = λ i. record {
   role = c .role;
   row = c .row;
-  what = c .what;
+  call = c .call;
   packed = c .packed;
-  a = high-packed w (c .a) fb i;
-  b = low-packed w (c .a) fb i;
-  c = high-packed w (c .c) fd i;
-  d = low-packed w (c .c) fd i;
-  e = mod-eq-of-lt fe i;
+  first = high-packed w (c .first) fb i;
+  second = low-packed w (c .first) fb i;
+  third = high-packed w (c .third) fd i;
+  fourth = low-packed w (c .third) fd i;
+  fifth = mod-eq-of-lt fe i;
 }
 
-pub drain-back : (w : ℕ) (c : Cell) (d : M.Drain) → d .end < 2 ^ w → drainFrom w (seatWords w c d) ≡ d
+pub drain-back : (w : ℕ) (c : PlaceWords) (d : Drain) → d .end < 2 ^ w → drainFrom w (partyWords w c d) ≡ d
 drain-back w c d fe = λ i. record { at = high-packed w (d .at) fe i; end = low-packed w (d .at) fe i }
 
-pub queue-back : (w : ℕ) (k : Kind) (q : M.Queue) → q .kind ≡ k → q .count < 2 ^ w → q .done < 2 ^ w → queueFrom w k (queueWords w q) ≡ q
+kind-back : (k : Kind) → kindOf (kindNumber k) ≡ k
+kind-back Kind.Lifo = refl
+kind-back Kind.Fifo = refl
+
+pub queue-back : (w : ℕ) (q : Queue) → q .pushes < 2 ^ w → q .completed < 2 ^ w → queueFrom w (queueWords w q) ≡ q
 unfolding queueFrom
-queue-back w k q e fc fd = λ i. record {
-  kind = sym e i;
+queue-back w q fc fd = λ i. record {
+  kind = (ap kindOf (high-packed w (kindNumber (q .kind)) fd) ∙ kind-back (q .kind)) i;
   capacity = high-packed w (q .capacity) fc i;
-  count = low-packed w (q .capacity) fc i;
+  pushes = low-packed w (q .capacity) fc i;
   packed = q .packed;
-  done = mod-eq-of-lt fd i;
+  completed = low-packed w (kindNumber (q .kind)) fd i;
 }
 
 -- the whole of a part filed
@@ -95,13 +102,22 @@ filed xs ys at =
     ap (λ (l : List ℕ). take at xs ++ l ++ drop (at + length ys) xs) (take-length ys)
     ∙ append-assoc (take at xs) ys (drop (at + length ys) xs)
 
--- what `seat_words` leaves
-pub seat-filed : (w : ℕ) (c : Cell) (d : M.Drain) {x y z : ℕ} → x ≡ packed w (c .a) (c .b) → y ≡ packed w (c .c) (c .d) → z ≡ packed w (d .at) (d .end)
-    → c .role ∷ c .row ∷ c .what .tag ∷ c .what .rule ∷ c .what .source ∷ c .what .number ∷ c .packed ∷ x ∷ y ∷ c .e ∷ z ∷ [] ≡ seatWords w c d
+-- what `party_words` leaves
+pub seat-filed : (w : ℕ) (c : PlaceWords) (d : Drain) {x y z : ℕ} → x ≡ packed w (c .first) (c .second) → y ≡ packed w (c .third) (c .fourth) → z ≡ packed w (d .at) (d .end)
+    → c .role ∷ c .row ∷ c .call .tag ∷ c .call .rule ∷ c .call .source ∷ c .call .number ∷ c .packed ∷ x ∷ y ∷ c .fifth ∷ z ∷ [] ≡ partyWords w c d
 seat-filed w c d ex ey ez = simp (ex, ey, ez)
 
-pub queue-filed : (w : ℕ) (q : M.Queue) {x : ℕ} → x ≡ packed w (q .capacity) (q .count) → x ∷ q .packed ∷ q .done ∷ [] ≡ queueWords w q
-queue-filed w q ex = simp ex
+pub queue-filed : (w : ℕ) (q : Queue) {x y n : ℕ} → x ≡ packed w (q .capacity) (q .pushes) → n ≡ kindNumber (q .kind) → y ≡ packed w n (q .completed)
+    → x ∷ q .packed ∷ y ∷ [] ≡ queueWords w q
+queue-filed w q ex en ey = simp (ex, ey, en)
+
+-- what stands after a part stays as it was
+pub after-kept : (base n : ℕ) (xs ws : List ℕ) → base + n ≤ length xs → length ws ≡ n → (k : ℕ) → base + n ≤ k → drop k (restretched base n ws xs) ≡ drop k xs
+after-kept base n xs ws fits full k h =
+    let ys : List ℕ = restretched base n ws xs in
+    let long : length ys ≡ length xs = restretched-length base n xs ws fits full in
+    sym (take-all (length xs) (drop k ys) (rw length-drop (omega (arith, long)))) ∙ stretch-after base n xs ws fits full k (length xs) h
+    ∙ take-all (length xs) (drop k xs) (rw length-drop (omega arith))
 
 -- while a part is filed the block keeps its length
 pub file-long : (xs ys zs : List ℕ) (at i : ℕ) → at + length ys ≤ length xs → i ≤ length ys → zs ≡ paste xs at ys i → length zs ≡ length xs

@@ -1,7 +1,7 @@
-pub mod Cell
+pub mod PlaceWords
 pub mod Block
 pub mod Reply
 pub mod Survey
-pub mod Held
+pub mod Contents
 pub mod Opening
 pub mod Look

@@ -4,17 +4,18 @@ use mathlib.Core.List.{List, [], _∷_}
 use lib.Dec.{ltb}
 use lib.ListN.{getD}
 use Rattle.words.specs.Word.{pick}
-use Rattle.tables.specs.Machine.{Queue, queueAt, stretch}
+use Rattle.tables.specs.declared.state.Queue.{Queue}
+use Rattle.tables.specs.Machine.{queueAt, stretch}
 use Rattle.tables.specs.Lists.{restingAt}
 use Rattle.block.specs.Block.{replyBase, replySize, isBlock, machineOf}
 
-abbrev pub wordsOf : Queue → List ℕ
-wordsOf q = q .capacity ∷ q .count ∷ q .packed ∷ q .done ∷ []
+abbrev pub queueWordsOf : Queue → List ℕ
+queueWordsOf q = q .capacity ∷ q .pushes ∷ q .packed ∷ q .completed ∷ []
 
 -- word i of queue q
 unfoldable pub wordIn : (w most : ℕ) → List ℕ → (q i : ℕ) → ℕ
 wordIn w most xs q i =
-    pick (ltb q (machineOf w most xs .parties)) (getD (wordsOf (queueAt (machineOf w most xs) q)) i 0) 0
+    pick (ltb q (machineOf w most xs .parties)) (getD (queueWordsOf (queueAt (machineOf w most xs) q)) i 0) 0
 
 -- word i of the last answer
 unfoldable pub replyIn : (most : ℕ) → List ℕ → (i : ℕ) → ℕ

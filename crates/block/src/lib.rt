@@ -9,22 +9,23 @@ pub mod open; // a fresh machine
 pub mod look; // what a host reads off
 
 // What a call is about: its tag, and the rule, the source and the number (a token, or the rule's) that go with it.
-pub struct What {
+pub struct CallWords {
     pub tag: u64,
     pub rule: u64,
     pub source: u64,
     pub number: u64,
 }
 
-// A place: its role (0 idle, 1 LIFO's, 2 FIFO's, 3 own, 4 booking, 5 moving, 6 closing), its row there, and what it remembers.
-pub struct Cell {
+// A place: its role (0 idle, 1 LIFO's, 2 FIFO's, 3 own, 4 booking, 5 moving, 6 closing), its row there, and what it
+// remembers: what its call is about, a packed word, and the short words in the order in which the place names them.
+pub struct PlaceWords {
     pub role: u64,
     pub row: u64,
-    pub what: What,
+    pub call: CallWords,
     pub packed: u64,
-    pub a: u32,
-    pub b: u32,
-    pub c: u32,
-    pub d: u32,
-    pub e: u32,
+    pub first: u32,
+    pub second: u32,
+    pub third: u32,
+    pub fourth: u32,
+    pub fifth: u32,
 }

@@ -1,14 +1,15 @@
 // A fresh machine in a block, or refusal 1, 7 or 8.
 ghost use mathlib.Core.Path.{_≡_};
-ghost use lib.ListN.{getD};
+ghost use lib.ListN.{length, getD};
 ghost use Rattle.words.specs.Edition.{width};
-ghost use Rattle.machine.specs.View.{most};
+ghost use Rattle.tables.specs.Machine.{most};
 ghost use Rattle.block.specs.Block as B;
-ghost use Rattle.block.specs.Held as Hd;
+ghost use Rattle.block.specs.Contents as Hd;
 ghost use Rattle.block.specs.Opening as O;
 use super::layout;
+use super::layout::SIZE;
 use super::store;
-use machine::MOST;
+use tables::state::MOST;
 
 fn request(given: &[u64], i: usize) -> u64
     ensures { λ r. ⌜ r ≡ getD (now (given .entry)) i 0 ⌝ }
@@ -22,13 +23,13 @@ fn position(given: &[u32], i: usize) -> u32
     if i < given.len() { given[i] } else { 0 }
 }
 
-// The first sixteen, 0 where there are fewer.
+// As many as there are parties at most, 0 where there are fewer.
 fn first_requests(given: &[u64]) -> [u64; MOST]
     ensures { λ r. ⌜ r ≡ O.firstOf most (now (given .entry)) ⌝ }
 {
     let mut out: [u64; MOST] = [0; MOST];
     let mut i: usize = 0;
-    while i < 16 {
+    while i < MOST {
         out[i] = request(given, i);
         i += 1;
     }
@@ -40,7 +41,7 @@ fn first_positions(given: &[u32]) -> [u32; MOST]
 {
     let mut out: [u32; MOST] = [0; MOST];
     let mut i: usize = 0;
-    while i < 16 {
+    while i < MOST {
         out[i] = position(given, i);
         i += 1;
     }
@@ -68,13 +69,13 @@ pub fn open(
     parties: u64,
     requests: &[u64],
     positions: &[u32],
-    lent: u64,
+    items: &[u64],
 ) -> u8
-    ensures { λ r. ⌜ O.leftAt r (Hd.heldIn width most (now (block .exit)))
-        ≡ O.opened width most (now (block .entry)) kind parties (now (requests .entry)) (now (positions .entry)) lent ⌝ }
+    ensures { λ r. ⌜ O.leftAt r (Hd.contentsIn width most (now (block .exit)))
+        ≡ O.opened width most (now (block .entry)) kind parties (now (requests .entry)) (now (positions .entry)) (length (now (items .entry))) ⌝ }
     ensures { λ _. ⌜ (O.untouched most (now (block .entry)) kind → now (block .exit) ≡ now (block .entry)) ⌝ }
 {
-    if block.len() < 244 {
+    if block.len() < SIZE {
         return 1;
     }
     if 1 < kind {
@@ -86,7 +87,7 @@ pub fn open(
         n,
         first_requests(requests),
         first_positions(positions),
-        lent,
+        items,
     );
     let m = o.machine;
     store::store(block, m);

@@ -1,347 +1,287 @@
-// Numbers as a place. Numbers that are no place's are read as a place that the kind's tables lack, which the record test refuses.
+// Numbers as a place. Numbers that are no place's are read as one whose source is not there, which the record test refuses.
 ghost use mathlib.Core.Path.{_≡_};
 ghost use Rattle.words.specs.Word.{orb};
 ghost use Rattle.tables.specs.Step.{andb};
-ghost use Rattle.queue.specs.View as Q;
-ghost use Rattle.block.specs.Cell as C;
-use super::Cell;
-use super::What;
-use queue::BookPlace;
-use queue::ClosePlace;
-use queue::Dest;
-use queue::Ending;
-use queue::Errand;
-use queue::FifoPlace;
-use queue::Fill;
-use queue::Goal;
-use queue::Haul;
-use queue::Job;
-use queue::Kind;
-use queue::LifoPlace;
-use queue::MovePlace;
-use queue::OwnPlace;
-use queue::Place;
-use queue::Rule;
-use queue::Trip;
+ghost use Rattle.block.specs.PlaceWords as C;
+use super::CallWords;
+use super::PlaceWords;
+use tables::call::Rule;
+use tables::place::BookPlace;
+use tables::place::BookedTokens;
+use tables::place::BookingCall;
+use tables::place::ClosePlace;
+use tables::place::ClosingCall;
+use tables::place::Destination;
+use tables::place::FifoPlace;
+use tables::place::LifoPlace;
+use tables::place::MovePlace;
+use tables::place::OwnPlace;
+use tables::place::OwnerCall;
+use tables::place::Place;
+use tables::place::RoomCall;
+use tables::place::Transfer;
+use tables::place::TransferCall;
 use words::Position;
 
 pub fn rule_of(rule: u64, number: u64) -> Rule
-    ensures { λ r. ⌜ Q.viewRule r ≡ C.ruleOf rule number ⌝ }
+    ensures { λ r. ⌜ r ≡ C.ruleOf rule number ⌝ }
 {
-    if rule == 0 {
-        return Rule::All;
+    match rule {
+        0 => Rule::All,
+        1 => Rule::Half,
+        2 => Rule::Fixed(number),
+        _ => Rule::Given,
     }
-    if rule == 1 {
-        return Rule::Half;
-    }
-    if rule == 2 {
-        return Rule::Fixed(number);
-    }
-    Rule::Given
 }
 
-fn fill_of(w: What) -> Fill
-    ensures { λ r. ⌜ Q.viewFill r ≡ C.fillOf w ⌝ }
+fn owner_of(w: CallWords) -> OwnerCall
+    ensures { λ r. ⌜ r ≡ C.ownerOf w ⌝ }
 {
-    if w.tag == 0 {
-        return Fill::Push(w.number);
+    let tag = w.tag;
+    match tag {
+        0 => OwnerCall::Push(w.number),
+        1 => OwnerCall::Extend,
+        _ => OwnerCall::Spare,
     }
-    if w.tag == 1 {
-        return Fill::Extend;
-    }
-    Fill::Spare
 }
 
-fn haul_of(tag: u64) -> Haul
-    ensures { λ r. ⌜ Q.viewHaul r ≡ C.haulOf tag ⌝ }
+fn transfer_of(tag: u64) -> Transfer
+    ensures { λ r. ⌜ r ≡ C.transferOf tag ⌝ }
 {
-    if tag == 3 {
-        return Haul::Steals;
+    match tag {
+        3 => Transfer::Steal,
+        _ => Transfer::Take,
     }
-    Haul::Takes
 }
 
-fn errand_of(w: What) -> Errand
-    ensures { λ r. ⌜ Q.viewErrand r ≡ C.errandOf w ⌝ }
+fn transfer_call_of(w: CallWords) -> TransferCall
+    ensures { λ r. ⌜ r ≡ C.transferCallOf w ⌝ }
 {
-    Errand {
+    TransferCall {
         source: w.source,
         rule: rule_of(w.rule, w.number),
-        haul: haul_of(w.tag),
+        transfer: transfer_of(w.tag),
     }
 }
 
-fn job_of(w: What) -> Job
-    ensures { λ r. ⌜ Q.viewJob r ≡ C.jobOf w ⌝ }
+fn room_of(w: CallWords) -> RoomCall
+    ensures { λ r. ⌜ r ≡ C.roomOf w ⌝ }
 {
     if w.tag < 3 {
-        return Job::Fills(fill_of(w));
+        return RoomCall::Owner(owner_of(w));
     }
-    Job::Brings(errand_of(w))
+    RoomCall::Transfer(transfer_call_of(w))
 }
 
-fn dest_of(c: Cell) -> Dest
-    ensures { λ r. ⌜ Q.viewDest r ≡ C.destOf c ⌝ }
+fn destination_of(c: PlaceWords) -> Destination
+    ensures { λ r. ⌜ r ≡ C.destinationOf c ⌝ }
 {
-    Dest {
-        word: c.a,
-        tail: c.b,
-        room: c.c,
+    Destination {
+        word: c.first,
+        tail: c.second,
+        room: c.third,
     }
 }
 
-fn goal_of(c: Cell) -> Goal
-    ensures { λ r. ⌜ Q.viewGoal r ≡ C.goalOf c ⌝ }
+fn booking_of(c: PlaceWords) -> BookingCall
+    ensures { λ r. ⌜ r ≡ C.bookingOf c ⌝ }
 {
-    let w = c.what;
-    if w.tag == 5 {
-        return Goal::Drain(rule_of(w.rule, w.number));
+    let w = c.call;
+    let tag = w.tag;
+    match tag {
+        5 => BookingCall::Drain(rule_of(w.rule, w.number)),
+        _ => BookingCall::Transfer(transfer_call_of(w), destination_of(c)),
     }
-    Goal::Haul(errand_of(w), dest_of(c))
 }
 
-fn trip_of(c: Cell) -> Trip
-    ensures { λ r. ⌜ Q.viewTrip r ≡ C.tripOf c ⌝ }
+fn booked_of(c: PlaceWords) -> BookedTokens
+    ensures { λ r. ⌜ r ≡ C.bookedOf c ⌝ }
 {
-    let w = c.what;
-    Trip {
+    let w = c.call;
+    BookedTokens {
         source: w.source,
-        haul: haul_of(w.tag),
-        word: c.a,
-        tail: c.b,
-        from: c.c,
-        count: c.d,
+        transfer: transfer_of(w.tag),
+        word: c.first,
+        tail: c.second,
+        from: c.third,
+        count: c.fourth,
     }
 }
 
-fn ending_of(w: What, count: u32) -> Ending
-    ensures { λ r. ⌜ Q.viewEnding r ≡ C.endingOf w count ⌝ }
+fn closing_of(w: CallWords, count: u32) -> ClosingCall
+    ensures { λ r. ⌜ r ≡ C.closingOf w count ⌝ }
 {
-    if w.tag == 3 {
-        return Ending::Stolen {
+    let tag = w.tag;
+    match tag {
+        3 => ClosingCall::Steal {
             source: w.source,
             count: count,
-        };
-    }
-    if w.tag == 4 {
-        return Ending::Taken {
+        },
+        4 => ClosingCall::Take {
             source: w.source,
             token: w.number,
             count: count,
-        };
+        },
+        6 => ClosingCall::Next(w.number),
+        _ => ClosingCall::Drop,
     }
-    if w.tag == 6 {
-        return Ending::Item(w.number);
-    }
-    Ending::Dropped
 }
 
-fn lifo_of(c: Cell) -> LifoPlace
-    ensures { λ r. ⌜ Q.viewLifoPlace r ≡ C.lifoOf c ⌝ }
+fn lifo_of(c: PlaceWords) -> LifoPlace
+    ensures { λ r. ⌜ r ≡ C.lifoOf c ⌝ }
 {
-    let w = c.what;
-    if c.row == 0 {
-        return LifoPlace::LoadCount(job_of(w));
-    }
-    if c.row == 1 {
-        return LifoPlace::LoadPacked {
-            job: job_of(w),
-            count: c.a,
-        };
-    }
-    if c.row == 2 {
-        return LifoPlace::LoadDone {
-            job: job_of(w),
-            count: c.a,
+    let w = c.call;
+    let row = c.row;
+    match row {
+        0 => LifoPlace::LoadPushes(room_of(w)),
+        1 => LifoPlace::LoadPacked {
+            call: room_of(w),
+            pushes: c.first,
+        },
+        2 => LifoPlace::LoadCompleted {
+            call: room_of(w),
+            pushes: c.first,
             packed: c.packed,
-        };
-    }
-    if c.row == 3 {
-        return LifoPlace::PopPacked;
-    }
-    if c.row == 4 {
-        return LifoPlace::PopCount { packed: c.packed };
-    }
-    if c.row == 5 {
-        return LifoPlace::PopCas {
+        },
+        3 => LifoPlace::PopPacked,
+        4 => LifoPlace::PopPushes { packed: c.packed },
+        5 => LifoPlace::PopCas {
             packed: c.packed,
-            tail: c.a,
-        };
+            tail: c.first,
+        },
+        6 => LifoPlace::EmptyPushes,
+        _ => LifoPlace::EmptyPacked { pushes: c.first },
     }
-    if c.row == 6 {
-        return LifoPlace::EmptyCount;
-    }
-    LifoPlace::EmptyPacked { count: c.a }
 }
 
-fn fifo_of(c: Cell) -> FifoPlace
-    ensures { λ r. ⌜ Q.viewFifoPlace r ≡ C.fifoOf c ⌝ }
+fn fifo_of(c: PlaceWords) -> FifoPlace
+    ensures { λ r. ⌜ r ≡ C.fifoOf c ⌝ }
 {
-    let w = c.what;
-    if c.row == 0 {
-        return FifoPlace::LoadPacked(fill_of(w));
-    }
-    if c.row == 1 {
-        return FifoPlace::LoadTail {
-            fill: fill_of(w),
+    let w = c.call;
+    let row = c.row;
+    match row {
+        0 => FifoPlace::LoadPacked(owner_of(w)),
+        1 => FifoPlace::LoadTail {
+            call: owner_of(w),
             packed: c.packed,
-        };
+        },
+        2 => FifoPlace::DestTail(transfer_call_of(w)),
+        3 => FifoPlace::DestPacked {
+            transfer: transfer_call_of(w),
+            tail: c.first,
+        },
+        4 => FifoPlace::PopPacked,
+        5 => FifoPlace::PopTail { packed: c.packed },
+        6 => FifoPlace::PopCas { packed: c.packed },
+        7 => FifoPlace::EmptyPacked,
+        _ => FifoPlace::EmptyTail { packed: c.packed },
     }
-    if c.row == 2 {
-        return FifoPlace::DestTail(errand_of(w));
-    }
-    if c.row == 3 {
-        return FifoPlace::DestPacked {
-            errand: errand_of(w),
-            tail: c.a,
-        };
-    }
-    if c.row == 4 {
-        return FifoPlace::PopPacked;
-    }
-    if c.row == 5 {
-        return FifoPlace::PopTail { packed: c.packed };
-    }
-    if c.row == 6 {
-        return FifoPlace::PopCas { packed: c.packed };
-    }
-    if c.row == 7 {
-        return FifoPlace::EmptyPacked;
-    }
-    FifoPlace::EmptyTail { packed: c.packed }
 }
 
-fn own_of(c: Cell) -> OwnPlace
-    ensures { λ r. ⌜ Q.viewOwnPlace r ≡ C.ownOf c ⌝ }
+fn own_of(c: PlaceWords) -> OwnPlace
+    ensures { λ r. ⌜ r ≡ C.ownOf c ⌝ }
 {
-    let w = c.what;
-    if c.row == 0 {
-        return OwnPlace::PushWrite {
+    let w = c.call;
+    let row = c.row;
+    match row {
+        0 => OwnPlace::PushWrite {
             token: w.number,
-            word: c.a,
-            tail: c.b,
-        };
-    }
-    if c.row == 1 {
-        return OwnPlace::PushStore { word: c.a };
-    }
-    if c.row == 2 {
-        return OwnPlace::ExtendMore {
-            pops: c.a,
-            tail: c.b,
-            limit: c.c,
-            written: c.d,
-        };
-    }
-    if c.row == 3 {
-        return OwnPlace::ExtendStore {
-            pops: c.a,
-            tail: c.b,
-            written: c.c,
-        };
-    }
-    if c.row == 4 {
-        return OwnPlace::PopRead { at: Position(c.a) };
-    }
-    if c.row == 5 {
-        return OwnPlace::NextItem;
-    }
-    OwnPlace::DropItem
-}
-
-fn book_of(c: Cell) -> BookPlace
-    ensures { λ r. ⌜ Q.viewBookPlace r ≡ C.bookOf c ⌝ }
-{
-    if c.row == 0 {
-        return BookPlace::LifoPacked;
-    }
-    if c.row == 1 {
-        return BookPlace::LifoDone { packed: c.packed };
-    }
-    if c.row == 2 {
-        return BookPlace::LifoCount {
-            packed: c.packed,
-            done: c.d,
-        };
-    }
-    if c.row == 3 {
-        return BookPlace::LifoCas {
-            packed: c.packed,
-            done: c.d,
-            count: c.e,
-        };
-    }
-    if c.row == 4 {
-        return BookPlace::FifoPacked;
-    }
-    if c.row == 5 {
-        return BookPlace::FifoTail { packed: c.packed };
-    }
-    BookPlace::FifoCas {
-        packed: c.packed,
-        count: c.e,
+            word: c.first,
+            tail: c.second,
+        },
+        1 => OwnPlace::PushStore { word: c.first },
+        2 => OwnPlace::ExtendMore {
+            pops: c.first,
+            tail: c.second,
+            limit: c.third,
+            written: c.fourth,
+        },
+        3 => OwnPlace::ExtendStore {
+            pops: c.first,
+            tail: c.second,
+            written: c.third,
+        },
+        4 => OwnPlace::PopRead {
+            at: Position(c.first),
+        },
+        5 => OwnPlace::NextItem,
+        _ => OwnPlace::DropItem,
     }
 }
 
-fn move_of(c: Cell) -> MovePlace
-    ensures { λ r. ⌜ Q.viewMovePlace r ≡ C.moveOf c ⌝ }
+fn book_of(c: PlaceWords) -> BookPlace
+    ensures { λ r. ⌜ r ≡ C.bookOf c ⌝ }
 {
-    let w = c.what;
-    let trip = trip_of(c);
-    if c.row == 0 {
-        return MovePlace::ReadSlot {
-            trip: trip,
-            moved: c.e,
-        };
+    let row = c.row;
+    match row {
+        0 => BookPlace::LifoPacked,
+        1 => BookPlace::LifoCompleted { packed: c.packed },
+        2 => BookPlace::LifoPushes {
+            packed: c.packed,
+            completed: c.fourth,
+        },
+        3 => BookPlace::LifoCas {
+            packed: c.packed,
+            completed: c.fourth,
+            count: c.fifth,
+        },
+        4 => BookPlace::FifoPacked,
+        5 => BookPlace::FifoTail { packed: c.packed },
+        _ => BookPlace::FifoCas {
+            packed: c.packed,
+            count: c.fifth,
+        },
     }
-    if c.row == 1 {
-        return MovePlace::WriteSlot {
-            trip: trip,
-            moved: c.e,
+}
+
+fn move_of(c: PlaceWords) -> MovePlace
+    ensures { λ r. ⌜ r ≡ C.moveOf c ⌝ }
+{
+    let w = c.call;
+    let booked = booked_of(c);
+    let row = c.row;
+    match row {
+        0 => MovePlace::ReadSlot {
+            booked: booked,
+            moved: c.fifth,
+        },
+        1 => MovePlace::WriteSlot {
+            booked: booked,
+            moved: c.fifth,
             token: w.number,
-        };
-    }
-    MovePlace::Land {
-        trip: trip,
-        last: w.number,
+        },
+        _ => MovePlace::Land {
+            booked: booked,
+            last: w.number,
+        },
     }
 }
 
-fn close_of(c: Cell) -> ClosePlace
-    ensures { λ r. ⌜ Q.viewClosePlace r ≡ C.closeOf c ⌝ }
+fn close_of(c: PlaceWords) -> ClosePlace
+    ensures { λ r. ⌜ r ≡ C.closeOf c ⌝ }
 {
-    if c.row == 0 {
-        return ClosePlace::StoreDone { head: c.b };
+    let row = c.row;
+    match row {
+        0 => ClosePlace::StoreCompleted { head: c.second },
+        1 => ClosePlace::LoadHeads,
+        _ => ClosePlace::CasHeads { packed: c.packed },
     }
-    if c.row == 1 {
-        return ClosePlace::LoadHeads;
-    }
-    ClosePlace::CasHeads { packed: c.packed }
 }
 
-fn place_of(c: Cell) -> Place
-    ensures { λ r. ⌜ Q.viewPlace r ≡ C.placeOf c ⌝ }
+fn place_of(c: PlaceWords) -> Place
+    ensures { λ r. ⌜ r ≡ C.placeOf c ⌝ }
 {
-    if c.role == 0 {
-        return Place::Idle;
+    let w = c.call;
+    let role = c.role;
+    match role {
+        0 => Place::Idle,
+        1 => Place::Lifo(lifo_of(c)),
+        2 => Place::Fifo(fifo_of(c)),
+        3 => Place::Own(own_of(c)),
+        4 => Place::Book(booking_of(c), book_of(c)),
+        5 => Place::Move(move_of(c)),
+        _ => Place::Close(closing_of(w, c.first), close_of(c)),
     }
-    if c.role == 1 {
-        return Place::Lifo(lifo_of(c));
-    }
-    if c.role == 2 {
-        return Place::Fifo(fifo_of(c));
-    }
-    if c.role == 3 {
-        return Place::Own(own_of(c));
-    }
-    if c.role == 4 {
-        return Place::Book(goal_of(c), book_of(c));
-    }
-    if c.role == 5 {
-        return Place::Move(move_of(c));
-    }
-    let w = c.what;
-    Place::Close(ending_of(w, c.a), close_of(c))
 }
 
 fn both(a: bool, b: bool) -> bool
@@ -402,45 +342,38 @@ fn close_known(row: u64, tag: u64) -> bool
     both(row < 3, either(between(3, 5, tag), between(6, 8, tag)))
 }
 
-fn known(c: Cell) -> bool
+fn known(c: PlaceWords) -> bool
     ensures { λ r. ⌜ r ≡ C.known c ⌝ }
 {
-    let w = c.what;
-    if c.role == 0 {
-        return c.row == 0;
-    }
-    if c.role == 1 {
-        return lifo_known(c.row, w.tag, w.rule);
-    }
-    if c.role == 2 {
-        return fifo_known(c.row, w.tag, w.rule);
-    }
-    if c.role == 3 {
-        return c.row < 7;
-    }
-    if c.role == 4 {
-        return book_known(c.row, w.tag, w.rule);
-    }
-    if c.role == 5 {
-        return move_known(c.row, w.tag);
-    }
-    if c.role == 6 {
-        return close_known(c.row, w.tag);
-    }
-    false
-}
-
-fn lacking(kind: Kind) -> Place
-    ensures { λ r. ⌜ Q.viewPlace r ≡ C.lacking (Q.viewKind kind) ⌝ }
-{
-    match kind {
-        Kind::Lifo => Place::Fifo(FifoPlace::PopPacked),
-        Kind::Fifo => Place::Lifo(LifoPlace::PopPacked),
+    let w = c.call;
+    let role = c.role;
+    match role {
+        0 => c.row == 0,
+        1 => lifo_known(c.row, w.tag, w.rule),
+        2 => fifo_known(c.row, w.tag, w.rule),
+        3 => c.row < 7,
+        4 => book_known(c.row, w.tag, w.rule),
+        5 => move_known(c.row, w.tag),
+        6 => close_known(c.row, w.tag),
+        _ => false,
     }
 }
 
-pub fn place(kind: Kind, c: Cell) -> Place
-    ensures { λ r. ⌜ Q.viewPlace r ≡ C.placeRead (Q.viewKind kind) c ⌝ }
+// The last of all numbers is no party's, so the record test refuses this place.
+fn nobodys() -> Place
+    ensures { λ r. ⌜ r ≡ C.nobodys ⌝ }
 {
-    if known(c) { place_of(c) } else { lacking(kind) }
+    Place::Close(
+        ClosingCall::Steal {
+            source: 0xffff_ffff_ffff_ffff,
+            count: 0,
+        },
+        ClosePlace::LoadHeads,
+    )
+}
+
+pub fn place(c: PlaceWords) -> Place
+    ensures { λ r. ⌜ r ≡ C.placeRead c ⌝ }
+{
+    if known(c) { place_of(c) } else { nobodys() }
 }

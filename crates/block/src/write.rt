@@ -1,30 +1,29 @@
 // A place as numbers: one line a place, in the order of the tables.
 ghost use mathlib.Core.Path.{_≡_};
-ghost use Rattle.queue.specs.View as Q;
-ghost use Rattle.block.specs.Cell as C;
-use super::Cell;
-use super::What;
-use queue::BookPlace;
-use queue::ClosePlace;
-use queue::Dest;
-use queue::Ending;
-use queue::Errand;
-use queue::FifoPlace;
-use queue::Fill;
-use queue::Goal;
-use queue::Haul;
-use queue::Job;
-use queue::LifoPlace;
-use queue::MovePlace;
-use queue::OwnPlace;
-use queue::Place;
-use queue::Rule;
-use queue::Trip;
+ghost use Rattle.block.specs.PlaceWords as C;
+use super::CallWords;
+use super::PlaceWords;
+use tables::call::Rule;
+use tables::place::BookPlace;
+use tables::place::BookedTokens;
+use tables::place::BookingCall;
+use tables::place::ClosePlace;
+use tables::place::ClosingCall;
+use tables::place::Destination;
+use tables::place::FifoPlace;
+use tables::place::LifoPlace;
+use tables::place::MovePlace;
+use tables::place::OwnPlace;
+use tables::place::OwnerCall;
+use tables::place::Place;
+use tables::place::RoomCall;
+use tables::place::Transfer;
+use tables::place::TransferCall;
 
-pub fn what(tag: u64, rule: u64, source: u64, number: u64) -> What
-    ensures { λ r. ⌜ r ≡ C.what tag rule source number ⌝ }
+pub fn call_words(tag: u64, rule: u64, source: u64, number: u64) -> CallWords
+    ensures { λ r. ⌜ r ≡ C.callWords tag rule source number ⌝ }
 {
-    What {
+    CallWords {
         tag: tag,
         rule: rule,
         source: source,
@@ -32,41 +31,41 @@ pub fn what(tag: u64, rule: u64, source: u64, number: u64) -> What
     }
 }
 
-fn cell(
+fn place_words(
     role: u64,
     row: u64,
-    what: What,
+    call: CallWords,
     packed: u64,
-    a: u32,
-    b: u32,
-    c: u32,
-    d: u32,
-    e: u32,
-) -> Cell
-    ensures { λ r. ⌜ r ≡ C.cell role row what packed a b c d e ⌝ }
+    first: u32,
+    second: u32,
+    third: u32,
+    fourth: u32,
+    fifth: u32,
+) -> PlaceWords
+    ensures { λ r. ⌜ r ≡ C.placeWords role row call packed first second third fourth fifth ⌝ }
 {
-    Cell {
+    PlaceWords {
         role: role,
         row: row,
-        what: what,
+        call: call,
         packed: packed,
-        a: a,
-        b: b,
-        c: c,
-        d: d,
-        e: e,
+        first: first,
+        second: second,
+        third: third,
+        fourth: fourth,
+        fifth: fifth,
     }
 }
 
 // A place that remembers no more than a packed word and one short word.
-fn plain(role: u64, row: u64, packed: u64, a: u32) -> Cell
-    ensures { λ r. ⌜ r ≡ C.cell role row C.nothing packed a 0 0 0 0 ⌝ }
+fn plain(role: u64, row: u64, packed: u64, a: u32) -> PlaceWords
+    ensures { λ r. ⌜ r ≡ C.placeWords role row C.noCall packed a 0 0 0 0 ⌝ }
 {
-    cell(role, row, what(0, 0, 0, 0), packed, a, 0, 0, 0, 0)
+    place_words(role, row, call_words(0, 0, 0, 0), packed, a, 0, 0, 0, 0)
 }
 
 fn rule_number(rule: Rule) -> u64
-    ensures { λ r. ⌜ r ≡ C.ruleNumber (Q.viewRule rule) ⌝ }
+    ensures { λ r. ⌜ r ≡ C.ruleNumber rule ⌝ }
 {
     match rule {
         Rule::All => 0,
@@ -77,7 +76,7 @@ fn rule_number(rule: Rule) -> u64
 }
 
 fn rule_count(rule: Rule) -> u64
-    ensures { λ r. ⌜ r ≡ C.ruleCount (Q.viewRule rule) ⌝ }
+    ensures { λ r. ⌜ r ≡ C.ruleCount rule ⌝ }
 {
     match rule {
         Rule::All => 0,
@@ -87,62 +86,62 @@ fn rule_count(rule: Rule) -> u64
     }
 }
 
-fn fill_what(fill: Fill) -> What
-    ensures { λ r. ⌜ r ≡ C.fillWhat (Q.viewFill fill) ⌝ }
+fn owner_words(owner: OwnerCall) -> CallWords
+    ensures { λ r. ⌜ r ≡ C.ownerWords owner ⌝ }
 {
-    match fill {
-        Fill::Push(token) => what(0, 0, 0, token),
-        Fill::Extend => what(1, 0, 0, 0),
-        Fill::Spare => what(2, 0, 0, 0),
+    match owner {
+        OwnerCall::Push(token) => call_words(0, 0, 0, token),
+        OwnerCall::Extend => call_words(1, 0, 0, 0),
+        OwnerCall::Spare => call_words(2, 0, 0, 0),
     }
 }
 
-fn haul_tag(haul: Haul) -> u64
-    ensures { λ r. ⌜ r ≡ C.haulTag (Q.viewHaul haul) ⌝ }
+fn transfer_tag(which: Transfer) -> u64
+    ensures { λ r. ⌜ r ≡ C.transferTag which ⌝ }
 {
-    match haul {
-        Haul::Steals => 3,
-        Haul::Takes => 4,
+    match which {
+        Transfer::Steal => 3,
+        Transfer::Take => 4,
     }
 }
 
-fn errand_what(errand: Errand) -> What
-    ensures { λ r. ⌜ r ≡ C.errandWhat (Q.viewErrand errand) ⌝ }
+fn transfer_words(transfer: TransferCall) -> CallWords
+    ensures { λ r. ⌜ r ≡ C.transferWords transfer ⌝ }
 {
-    let haul = errand.haul;
-    let rule = errand.rule;
-    what(
-        haul_tag(haul),
+    let which = transfer.transfer;
+    let rule = transfer.rule;
+    call_words(
+        transfer_tag(which),
         rule_number(rule),
-        errand.source,
+        transfer.source,
         rule_count(rule),
     )
 }
 
-fn job_what(job: Job) -> What
-    ensures { λ r. ⌜ r ≡ C.jobWhat (Q.viewJob job) ⌝ }
+fn room_words(call: RoomCall) -> CallWords
+    ensures { λ r. ⌜ r ≡ C.roomWords call ⌝ }
 {
-    match job {
-        Job::Fills(fill) => fill_what(fill),
-        Job::Brings(errand) => errand_what(errand),
+    match call {
+        RoomCall::Owner(owner) => owner_words(owner),
+        RoomCall::Transfer(transfer) => transfer_words(transfer),
     }
 }
 
-fn goal_what(goal: Goal) -> What
-    ensures { λ r. ⌜ r ≡ C.goalWhat (Q.viewGoal goal) ⌝ }
+fn booking_words(call: BookingCall) -> CallWords
+    ensures { λ r. ⌜ r ≡ C.bookingWords call ⌝ }
 {
-    match goal {
-        Goal::Haul(errand, _) => errand_what(errand),
-        Goal::Drain(rule) => what(5, rule_number(rule), 0, rule_count(rule)),
+    match call {
+        BookingCall::Transfer(transfer, _) => transfer_words(transfer),
+        BookingCall::Drain(rule) => call_words(5, rule_number(rule), 0, rule_count(rule)),
     }
 }
 
-fn goal_dest(goal: Goal) -> Dest
-    ensures { λ r. ⌜ Q.viewDest r ≡ C.goalDest (Q.viewGoal goal) ⌝ }
+fn booking_destination(call: BookingCall) -> Destination
+    ensures { λ r. ⌜ r ≡ C.bookingDestination call ⌝ }
 {
-    match goal {
-        Goal::Haul(_, dest) => dest,
-        Goal::Drain(_) => Dest {
+    match call {
+        BookingCall::Transfer(_, dest) => dest,
+        BookingCall::Drain(_) => Destination {
             word: 0,
             tail: 0,
             room: 0,
@@ -150,72 +149,96 @@ fn goal_dest(goal: Goal) -> Dest
     }
 }
 
-fn ending_what(ending: Ending) -> What
-    ensures { λ r. ⌜ r ≡ C.endingWhat (Q.viewEnding ending) ⌝ }
+fn closing_words(call: ClosingCall) -> CallWords
+    ensures { λ r. ⌜ r ≡ C.closingWords call ⌝ }
 {
-    match ending {
-        Ending::Stolen { source, count: _ } => what(3, 0, source, 0),
-        Ending::Taken {
+    match call {
+        ClosingCall::Steal { source, count: _ } => call_words(3, 0, source, 0),
+        ClosingCall::Take {
             source,
             token,
             count: _,
-        } => what(4, 0, source, token),
-        Ending::Item(token) => what(6, 0, 0, token),
-        Ending::Dropped => what(7, 0, 0, 0),
+        } => call_words(4, 0, source, token),
+        ClosingCall::Next(token) => call_words(6, 0, 0, token),
+        ClosingCall::Drop => call_words(7, 0, 0, 0),
     }
 }
 
-fn ending_count(ending: Ending) -> u32
-    ensures { λ r. ⌜ r ≡ C.endingCount (Q.viewEnding ending) ⌝ }
+fn closing_count(call: ClosingCall) -> u32
+    ensures { λ r. ⌜ r ≡ C.closingCount call ⌝ }
 {
-    match ending {
-        Ending::Stolen { source: _, count } => count,
-        Ending::Taken {
+    match call {
+        ClosingCall::Steal { source: _, count } => count,
+        ClosingCall::Take {
             source: _,
             token: _,
             count,
         } => count,
-        Ending::Item(_) => 0,
-        Ending::Dropped => 0,
+        ClosingCall::Next(_) => 0,
+        ClosingCall::Drop => 0,
     }
 }
 
-fn lifo(place: LifoPlace) -> Cell
-    ensures { λ r. ⌜ r ≡ C.lifoCell (Q.viewLifoPlace place) ⌝ }
+fn lifo(place: LifoPlace) -> PlaceWords
+    ensures { λ r. ⌜ r ≡ C.lifoWords place ⌝ }
 {
     match place {
-        LifoPlace::LoadCount(job) => cell(1, 0, job_what(job), 0, 0, 0, 0, 0, 0),
-        LifoPlace::LoadPacked { job, count } => cell(1, 1, job_what(job), 0, count, 0, 0, 0, 0),
-        LifoPlace::LoadDone { job, count, packed } => cell(
+        LifoPlace::LoadPushes(call) => place_words(1, 0, room_words(call), 0, 0, 0, 0, 0, 0),
+        LifoPlace::LoadPacked { call, pushes } => place_words(
             1,
-            2,
-            job_what(job),
-            packed,
-            count,
+            1,
+            room_words(call),
+            0,
+            pushes,
             0,
             0,
             0,
             0,
         ),
+        LifoPlace::LoadCompleted {
+            call,
+            pushes,
+            packed,
+        } => place_words(1, 2, room_words(call), packed, pushes, 0, 0, 0, 0),
         LifoPlace::PopPacked => plain(1, 3, 0, 0),
-        LifoPlace::PopCount { packed } => plain(1, 4, packed, 0),
+        LifoPlace::PopPushes { packed } => plain(1, 4, packed, 0),
         LifoPlace::PopCas { packed, tail } => plain(1, 5, packed, tail),
-        LifoPlace::EmptyCount => plain(1, 6, 0, 0),
-        LifoPlace::EmptyPacked { count } => plain(1, 7, 0, count),
+        LifoPlace::EmptyPushes => plain(1, 6, 0, 0),
+        LifoPlace::EmptyPacked { pushes } => plain(1, 7, 0, pushes),
     }
 }
 
-fn fifo(place: FifoPlace) -> Cell
-    ensures { λ r. ⌜ r ≡ C.fifoCell (Q.viewFifoPlace place) ⌝ }
+fn fifo(place: FifoPlace) -> PlaceWords
+    ensures { λ r. ⌜ r ≡ C.fifoWords place ⌝ }
 {
     match place {
-        FifoPlace::LoadPacked(fill) => cell(2, 0, fill_what(fill), 0, 0, 0, 0, 0, 0),
-        FifoPlace::LoadTail { fill, packed } => cell(2, 1, fill_what(fill), packed, 0, 0, 0, 0, 0),
-        FifoPlace::DestTail(errand) => cell(2, 2, errand_what(errand), 0, 0, 0, 0, 0, 0),
-        FifoPlace::DestPacked { errand, tail } => cell(
+        FifoPlace::LoadPacked(owner) => place_words(2, 0, owner_words(owner), 0, 0, 0, 0, 0, 0),
+        FifoPlace::LoadTail { call, packed } => place_words(
+            2,
+            1,
+            owner_words(call),
+            packed,
+            0,
+            0,
+            0,
+            0,
+            0,
+        ),
+        FifoPlace::DestTail(transfer) => place_words(
+            2,
+            2,
+            transfer_words(transfer),
+            0,
+            0,
+            0,
+            0,
+            0,
+            0,
+        ),
+        FifoPlace::DestPacked { transfer, tail } => place_words(
             2,
             3,
-            errand_what(errand),
+            transfer_words(transfer),
             0,
             tail,
             0,
@@ -231,14 +254,14 @@ fn fifo(place: FifoPlace) -> Cell
     }
 }
 
-fn own(place: OwnPlace) -> Cell
-    ensures { λ r. ⌜ r ≡ C.ownCell (Q.viewOwnPlace place) ⌝ }
+fn own(place: OwnPlace) -> PlaceWords
+    ensures { λ r. ⌜ r ≡ C.ownWords place ⌝ }
 {
     match place {
-        OwnPlace::PushWrite { token, word, tail } => cell(
+        OwnPlace::PushWrite { token, word, tail } => place_words(
             3,
             0,
-            what(0, 0, 0, token),
+            call_words(0, 0, 0, token),
             0,
             word,
             tail,
@@ -252,101 +275,124 @@ fn own(place: OwnPlace) -> Cell
             tail,
             limit,
             written,
-        } => { cell(3, 2, what(0, 0, 0, 0), 0, pops, tail, limit, written, 0) }
+        } => {
+            place_words(
+                3,
+                2,
+                call_words(0, 0, 0, 0),
+                0,
+                pops,
+                tail,
+                limit,
+                written,
+                0,
+            )
+        }
         OwnPlace::ExtendStore {
             pops,
             tail,
             written,
-        } => cell(3, 3, what(0, 0, 0, 0), 0, pops, tail, written, 0, 0),
+        } => place_words(3, 3, call_words(0, 0, 0, 0), 0, pops, tail, written, 0, 0),
         OwnPlace::PopRead { at } => plain(3, 4, 0, at.0),
         OwnPlace::NextItem => plain(3, 5, 0, 0),
         OwnPlace::DropItem => plain(3, 6, 0, 0),
     }
 }
 
-fn booking(what: What, dest: Dest, row: u64, packed: u64, done: u32, count: u32) -> Cell
-    ensures { λ r. ⌜ r ≡ C.booking what (Q.viewDest dest) row packed done count ⌝ }
+fn booking(
+    call: CallWords,
+    dest: Destination,
+    row: u64,
+    packed: u64,
+    completed: u32,
+    count: u32,
+) -> PlaceWords
+    ensures { λ r. ⌜ r ≡ C.booking call dest row packed completed count ⌝ }
 {
-    cell(
+    place_words(
         4,
         row,
-        what,
+        call,
         packed,
         dest.word,
         dest.tail,
         dest.room,
-        done,
+        completed,
         count,
     )
 }
 
-fn book(what: What, dest: Dest, place: BookPlace) -> Cell
-    ensures { λ r. ⌜ r ≡ C.bookCell what (Q.viewDest dest) (Q.viewBookPlace place) ⌝ }
+fn book(call: CallWords, dest: Destination, place: BookPlace) -> PlaceWords
+    ensures { λ r. ⌜ r ≡ C.bookWords call dest place ⌝ }
 {
     match place {
-        BookPlace::LifoPacked => booking(what, dest, 0, 0, 0, 0),
-        BookPlace::LifoDone { packed } => booking(what, dest, 1, packed, 0, 0),
-        BookPlace::LifoCount { packed, done } => booking(what, dest, 2, packed, done, 0),
+        BookPlace::LifoPacked => booking(call, dest, 0, 0, 0, 0),
+        BookPlace::LifoCompleted { packed } => booking(call, dest, 1, packed, 0, 0),
+        BookPlace::LifoPushes { packed, completed } => booking(call, dest, 2, packed, completed, 0),
         BookPlace::LifoCas {
             packed,
-            done,
+            completed,
             count,
-        } => booking(what, dest, 3, packed, done, count),
-        BookPlace::FifoPacked => booking(what, dest, 4, 0, 0, 0),
-        BookPlace::FifoTail { packed } => booking(what, dest, 5, packed, 0, 0),
-        BookPlace::FifoCas { packed, count } => booking(what, dest, 6, packed, 0, count),
+        } => booking(call, dest, 3, packed, completed, count),
+        BookPlace::FifoPacked => booking(call, dest, 4, 0, 0, 0),
+        BookPlace::FifoTail { packed } => booking(call, dest, 5, packed, 0, 0),
+        BookPlace::FifoCas { packed, count } => booking(call, dest, 6, packed, 0, count),
     }
 }
 
-fn moving(trip: Trip, row: u64, token: u64, moved: u32) -> Cell
-    ensures { λ r. ⌜ r ≡ C.moving (Q.viewTrip trip) row token moved ⌝ }
+fn moving(booked: BookedTokens, row: u64, token: u64, moved: u32) -> PlaceWords
+    ensures { λ r. ⌜ r ≡ C.moving booked row token moved ⌝ }
 {
-    let haul = trip.haul;
-    let about = what(haul_tag(haul), 0, trip.source, token);
-    cell(
+    let which = booked.transfer;
+    let about = call_words(transfer_tag(which), 0, booked.source, token);
+    place_words(
         5,
         row,
         about,
         0,
-        trip.word,
-        trip.tail,
-        trip.from,
-        trip.count,
+        booked.word,
+        booked.tail,
+        booked.from,
+        booked.count,
         moved,
     )
 }
 
-fn moves(place: MovePlace) -> Cell
-    ensures { λ r. ⌜ r ≡ C.moveCell (Q.viewMovePlace place) ⌝ }
+fn moves(place: MovePlace) -> PlaceWords
+    ensures { λ r. ⌜ r ≡ C.moveWords place ⌝ }
 {
     match place {
-        MovePlace::ReadSlot { trip, moved } => moving(trip, 0, 0, moved),
-        MovePlace::WriteSlot { trip, moved, token } => moving(trip, 1, token, moved),
-        MovePlace::Land { trip, last } => moving(trip, 2, last, 0),
+        MovePlace::ReadSlot { booked, moved } => moving(booked, 0, 0, moved),
+        MovePlace::WriteSlot {
+            booked,
+            moved,
+            token,
+        } => moving(booked, 1, token, moved),
+        MovePlace::Land { booked, last } => moving(booked, 2, last, 0),
     }
 }
 
-fn close(ending: Ending, place: ClosePlace) -> Cell
-    ensures { λ r. ⌜ r ≡ C.closeCell (Q.viewEnding ending) (Q.viewClosePlace place) ⌝ }
+fn close(call: ClosingCall, place: ClosePlace) -> PlaceWords
+    ensures { λ r. ⌜ r ≡ C.closeWords call place ⌝ }
 {
-    let about = ending_what(ending);
-    let count = ending_count(ending);
+    let about = closing_words(call);
+    let count = closing_count(call);
     match place {
-        ClosePlace::StoreDone { head } => cell(6, 0, about, 0, count, head, 0, 0, 0),
-        ClosePlace::LoadHeads => cell(6, 1, about, 0, count, 0, 0, 0, 0),
-        ClosePlace::CasHeads { packed } => cell(6, 2, about, packed, count, 0, 0, 0, 0),
+        ClosePlace::StoreCompleted { head } => place_words(6, 0, about, 0, count, head, 0, 0, 0),
+        ClosePlace::LoadHeads => place_words(6, 1, about, 0, count, 0, 0, 0, 0),
+        ClosePlace::CasHeads { packed } => place_words(6, 2, about, packed, count, 0, 0, 0, 0),
     }
 }
 
-pub fn place(place: Place) -> Cell
-    ensures { λ r. ⌜ r ≡ C.cellOf (Q.viewPlace place) ⌝ }
+pub fn place(place: Place) -> PlaceWords
+    ensures { λ r. ⌜ r ≡ C.wordsOf place ⌝ }
 {
     match place {
         Place::Idle => plain(0, 0, 0, 0),
         Place::Lifo(p) => lifo(p),
         Place::Fifo(p) => fifo(p),
         Place::Own(p) => own(p),
-        Place::Book(g, p) => book(goal_what(g), goal_dest(g), p),
+        Place::Book(g, p) => book(booking_words(g), booking_destination(g), p),
         Place::Move(p) => moves(p),
         Place::Close(e, p) => close(e, p),
     }

@@ -1,51 +1,38 @@
 // Calls and marks as a host in another language names them.
 ghost use mathlib.Core.Path.{_≡_};
-ghost use Rattle.queue.specs.View as Q;
 ghost use Rattle.host.specs.Numbers as N;
-use queue::Call;
-use queue::Mark;
-use queue::Rule;
+use tables::call::Call;
+use tables::call::Mark;
+use tables::call::Rule;
 
 fn with_rule(call: u64, source: u64, rule: Rule) -> Call
-    ensures { λ r. ⌜ Q.viewCall r ≡ N.ruledCall call source (Q.viewRule rule) ⌝ }
+    ensures { λ r. ⌜ r ≡ N.ruledCall call source rule ⌝ }
 {
-    if call == 3 {
-        return Call::Steal {
+    match call {
+        3 => Call::Steal {
             source: source,
             rule: rule,
-        };
-    }
-    if call == 4 {
-        return Call::Take {
+        },
+        4 => Call::Take {
             source: source,
             rule: rule,
-        };
+        },
+        _ => Call::Drain(rule),
     }
-    Call::Drain(rule)
 }
 
 fn without_rule(call: u64, number: u64) -> Call
-    ensures { λ r. ⌜ Q.viewCall r ≡ N.plainCall call number ⌝ }
+    ensures { λ r. ⌜ r ≡ N.plainCall call number ⌝ }
 {
-    if call == 0 {
-        return Call::Push(number);
+    match call {
+        0 => Call::Push(number),
+        1 => Call::Extend,
+        2 => Call::Spare,
+        6 => Call::Next,
+        7 => Call::Drop,
+        8 => Call::Pop,
+        _ => Call::Empty,
     }
-    if call == 1 {
-        return Call::Extend;
-    }
-    if call == 2 {
-        return Call::Spare;
-    }
-    if call == 6 {
-        return Call::Next;
-    }
-    if call == 7 {
-        return Call::Drop;
-    }
-    if call == 8 {
-        return Call::Pop;
-    }
-    Call::Empty
 }
 
 fn has_rule(call: u64) -> bool
@@ -55,7 +42,7 @@ fn has_rule(call: u64) -> bool
 }
 
 pub fn call_of(call: u64, source: u64, rule: u64, number: u64) -> Call
-    ensures { λ r. ⌜ Q.viewCall r ≡ N.callOf call source rule number ⌝ }
+    ensures { λ r. ⌜ r ≡ N.callOf call source rule number ⌝ }
 {
     if has_rule(call) {
         with_rule(call, source, block::read::rule_of(rule, number))
@@ -71,16 +58,12 @@ pub fn call_known(call: u64, rule: u64) -> bool
 }
 
 pub fn mark_of(mark: u64, number: u64) -> Mark
-    ensures { λ r. ⌜ Q.viewMark r ≡ N.markOf mark number ⌝ }
+    ensures { λ r. ⌜ r ≡ N.markOf mark number ⌝ }
 {
-    if mark == 0 {
-        return Mark::Plain;
+    match mark {
+        0 => Mark::Plain,
+        1 => Mark::Weak,
+        2 => Mark::Carry(number),
+        _ => Mark::End,
     }
-    if mark == 1 {
-        return Mark::Weak;
-    }
-    if mark == 2 {
-        return Mark::Carry(number);
-    }
-    Mark::End
 }

@@ -1,12 +1,10 @@
-pub mod Turns
+pub mod Lengths
 pub mod Noting
-pub mod Running
 pub mod Desks
+pub mod Turns
+pub mod Running
 pub mod Acts
-pub mod Arrays
 pub mod Surveys
-pub mod Held
 pub mod Applied
 pub mod Opens
-pub mod One
 pub mod Rests

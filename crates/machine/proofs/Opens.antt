@@ -2,7 +2,7 @@
 use Prim.Native.Nat.{ℕ, zero, suc, _+_, _-_, _*_, _^_, _≤_, _<_}
 use mathlib.Core.Path.{_≡_, refl, sym, ap, ap₂, subst, _∙_}
 use mathlib.Core.Bool.{Bool, true, false}
-use mathlib.Core.List.{List, [], _∷_, map}
+use mathlib.Core.List.{List, [], _∷_}
 use native.Mathlib.Numerals.{add-one}
 use native.Mathlib.Omega.{arith}
 use borrow.Author.Tests.{lt-ltb, le-leb, lt-leb, eq-eqb, ne-eqb}
@@ -11,19 +11,16 @@ use lib.ListN.{length, getD, set}
 use lib.Seq.{getD-set-same, getD-set-other}
 use Rattle.words.specs.Edition.{width}
 use Rattle.words.specs.Word.{orb, pick}
-use Rattle.tables.specs.Rule.{Kind, lifo, fifo}
-use Rattle.tables.specs.Machine.{Queue, zeroQueue, baseOf}
-use Rattle.tables.specs.Machine as M
-use Rattle.tables.specs.Step.{overTo, openTo, openQueue, closedQueues, idleParties, tables, openQueues, andb, Opened, openRefusal, opening}
+use Rattle.tables.specs.declared.state.Kind.{Kind}
+use Rattle.tables.specs.declared.state.Kind.the-variants as Kind
+use Rattle.tables.specs.declared.state.Machine.{Machine}
+use Rattle.tables.specs.declared.state.Queue.{Queue}
+use Rattle.tables.specs.declared.state.Opened.{Opened}
+use Rattle.tables.specs.Machine.{most, zeroQueue, baseOf}
+use Rattle.tables.specs.Step.{overTo, openTo, openQueue, closedQueues, idleParties, tables, openQueues, andb, everyKind, openRefusal, opening}
 use Rattle.tables.proofs.Bases.{base-more}
 use Rattle.tables.proofs.Bools.{pick-yes, pick-no}
 use Rattle.tables.proofs.Opening.{open-length, closed-length}
-use Rattle.queue.specs.declared.Kind as D
-use Rattle.queue.specs.declared.Queue as D′
-use Rattle.queue.specs.View.{viewKind, viewQueue}
-use Rattle.machine.specs.declared.Machine.{Machine}
-use Rattle.machine.specs.View.{most, everyKind, viewParty, viewMachine}
-use Rattle.machine.proofs.Arrays.{map-set}
 
 pub over-none : (w : ℕ) (rs : List ℕ) → false ≡ overTo w rs 0
 unfolding overTo
@@ -36,7 +33,7 @@ over-more w rs i ef em = rw add-one (em ∙ ap (λ (b : Bool). orb b (ltb (2 ^ (
 
 -- the queues opened so far, and the sum of their capacities
 module _ (w : ℕ) (ks : List Kind) (rs ps : List ℕ) (l : List Queue) where
-  pub open-more : (i : ℕ) → openTo w ks rs ps (i + 1) l ≡ set (openTo w ks rs ps i l) i (openQueue w (getD ks i lifo) (getD rs i 0) (getD ps i 0))
+  pub open-more : (i : ℕ) → openTo w ks rs ps (i + 1) l ≡ set (openTo w ks rs ps i l) i (openQueue w (getD ks i Kind.Lifo) (getD rs i 0) (getD ps i 0))
   unfolding openTo
   open-more i = rw add-one refl
 
@@ -45,78 +42,62 @@ pub base-past : (n i : ℕ) (l : List Queue) (q : Queue) → n ≤ i → baseOf 
 unfolding baseOf
 base-past zero i l q h = refl
 base-past (suc n) i l q h =
-    ap₂ (λ (a b : ℕ). a + b) (base-past n i l q (omega arith)) (ap (λ (x : Queue). x .capacity) (getD-set-other l i n q (zeroQueue lifo) (λ e. omega arith)))
+    ap₂ (λ (a b : ℕ). a + b) (base-past n i l q (omega arith)) (ap (λ (x : Queue). x .capacity) (getD-set-other l i n q (zeroQueue Kind.Lifo) (λ e. omega arith)))
 
 pub base-next-set : (i : ℕ) (l : List Queue) (q : Queue) → i < length l → baseOf (i + 1) (set l i q) ≡ baseOf i l + q .capacity
 base-next-set i l q h =
-    base-more i (set l i q) ∙ ap₂ (λ (a b : ℕ). a + b) (base-past i i l q (omega arith)) (ap (λ (x : Queue). x .capacity) (getD-set-same l i q (zeroQueue lifo) h))
+    base-more i (set l i q) ∙ ap₂ (λ (a b : ℕ). a + b) (base-past i i l q (omega arith)) (ap (λ (x : Queue). x .capacity) (getD-set-same l i q (zeroQueue Kind.Lifo) h))
 
-pub every-at : (n : ℕ) (k : Kind) (i : ℕ) → i < n → getD (everyKind n k) i lifo ≡ k
+pub every-at : (n : ℕ) (k : Kind) (i : ℕ) → i < n → getD (everyKind n k) i Kind.Lifo ≡ k
 unfolding everyKind
 every-at zero k i h = absurd (omega arith)
 every-at (suc n) k zero h = refl
 every-at (suc n) k (suc i) h = every-at n k i (omega arith)
 
--- one more queue opened in the record, and the parties counted at the end
-module _ (out : Machine) (kind : D.Kind) (same : out .kind ≡ kind) {l : List Queue} (is : viewMachine out ≡ tables most 0 l) where
-  queues-are : map (viewQueue (viewKind (out .kind))) (out .queue) ≡ l
-  queues-are = ap (λ (m : M.Machine). m .queue) is
-
-  parties-are : map viewParty (out .party) ≡ idleParties most
-  parties-are = ap (λ (m : M.Machine). m .party) is
-
-  pub fill-more : (i : ℕ) (q : D′.Queue) {x : Queue} → viewQueue (viewKind kind) q ≡ x
-      → _≡_ {A = M.Machine} (record { parties = out .parties; party = map viewParty (out .party); queue = map (viewQueue (viewKind (out .kind))) (set (out .queue) i q) }) (tables most 0 (set l i x))
-  fill-more i q e = λ j. record {
-    parties = is j .parties;
-    party = parties-are j;
-    queue = (map-set (viewQueue (viewKind (out .kind))) (out .queue) i q ∙ ap₂ (λ (k : List Queue) (y : Queue). set k i y) queues-are (ap (λ (k : D.Kind). viewQueue (viewKind k) q) same ∙ e)) j;
-  }
-
-  pub fill-ends : (n : ℕ) → _≡_ {A = M.Machine} (record { parties = n; party = map viewParty (out .party); queue = map (viewQueue (viewKind (out .kind))) (out .queue) }) (tables most n l)
-  fill-ends n = λ j. record { parties = n; party = parties-are j; queue = queues-are j }
-
 -- what the loop keeps
-pub record Filling (kind : D.Kind) (rs ps : List ℕ) (n i : ℕ) (out : Machine) (total : ℕ) : Type 0 where
+pub record Filling (kind : Kind) (rs ps : List ℕ) (n i : ℕ) (out : Machine) (total : ℕ) : Type 0 where
   pub within : i ≤ n
-  pub same : out .kind ≡ kind
-  pub is : viewMachine out ≡ tables most 0 (openTo width (everyKind most (viewKind kind)) rs ps i (closedQueues most (everyKind most (viewKind kind))))
-  pub sum : total ≡ baseOf i (openTo width (everyKind most (viewKind kind)) rs ps i (closedQueues most (everyKind most (viewKind kind))))
-  pub small : total ≤ i * 4294967296
+  pub is : out ≡ tables most 0 (openTo width (everyKind most kind) rs ps i (closedQueues most (everyKind most kind)))
+  pub sum : total ≡ baseOf i (openTo width (everyKind most kind) rs ps i (closedQueues most (everyKind most kind)))
+  pub small : total ≤ i * 2 ^ width
 
-module _ (kind : D.Kind) (rs ps : List ℕ) (n : ℕ) (few : n ≤ most) where
+module _ (kind : Kind) (rs ps : List ℕ) (n : ℕ) (few : n ≤ most) where
   abbrev ks : List Kind
-  ks = everyKind most (viewKind kind)
+  ks = everyKind most kind
 
-  pub filling-start : (out : Machine) → out .kind ≡ kind → viewMachine out ≡ tables most 0 (closedQueues most ks) → Filling kind rs ps n 0 out 0
+  abbrev opened : ℕ → List Queue
+  opened i = openTo width ks rs ps i (closedQueues most ks)
+
+  pub filling-start : (out : Machine) → out ≡ tables most 0 (closedQueues most ks) → Filling kind rs ps n 0 out 0
   unfolding openTo baseOf
-  filling-start out e is = record { within = omega arith; same = e; is = is; sum = refl; small = omega arith }
+  filling-start out is = record { within = omega arith; is = is; sum = refl; small = omega arith }
 
-  pub filling-more : (i : ℕ) (out : Machine) (total : ℕ) (q : D′.Queue) → i < n → q .capacity < 4294967296 → viewQueue (viewKind kind) q ≡ openQueue width (viewKind kind) (getD rs i 0) (getD ps i 0)
+  pub filling-more : (i : ℕ) (out : Machine) (total : ℕ) (q : Queue) → i < n → q .capacity < 2 ^ width → q ≡ openQueue width kind (getD rs i 0) (getD ps i 0)
       → Filling kind rs ps n i out total
-      → Filling kind rs ps n (i + 1) (record { kind = out .kind; parties = out .parties; party = out .party; queue = set (out .queue) i q }) (total + q .capacity)
+      → Filling kind rs ps n (i + 1) (record { parties = out .parties; party = out .party; queue = set (out .queue) i q }) (total + q .capacity)
   filling-more i out total q h c e f = record {
     within = omega arith;
-    same = f .same;
-    is = rw (open-more width ks rs ps (closedQueues most ks) i) (fill-more out kind (f .same) (f .is) i q here);
+    is = rw (open-more width ks rs ps (closedQueues most ks) i)
+        (ap₂ (λ (m : Machine) (x : Queue). record { parties = m .parties; party = m .party; queue = set (m .queue) i x }) (f .is) here);
     sum = rw (open-more width ks rs ps (closedQueues most ks) i)
         (ap₂ (λ (a b : ℕ). a + b) (f .sum) (ap (λ (x : Queue). x .capacity) here)
-        ∙ sym (base-next-set i (openTo width ks rs ps i (closedQueues most ks)) (openQueue width (getD ks i lifo) (getD rs i 0) (getD ps i 0))
+        ∙ sym (base-next-set i (opened i) (openQueue width (getD ks i Kind.Lifo) (getD rs i 0) (getD ps i 0))
         (rw (open-length width ks rs ps i (closedQueues most ks), closed-length most ks) (omega arith))));
     small = omega (arith, f .small);
   }
     where
-      here : viewQueue (viewKind kind) q ≡ openQueue width (getD ks i lifo) (getD rs i 0) (getD ps i 0)
-      here = e ∙ ap (λ (k : Kind). openQueue width k (getD rs i 0) (getD ps i 0)) (sym (every-at most (viewKind kind) i (omega arith)))
+      here : q ≡ openQueue width (getD ks i Kind.Lifo) (getD rs i 0) (getD ps i 0)
+      here = e ∙ ap (λ (k : Kind). openQueue width k (getD rs i 0) (getD ps i 0)) (sym (every-at most kind i (omega arith)))
 
-pub filling-ends : {kind : D.Kind} {rs ps : List ℕ} {n i : ℕ} {out : Machine} {total : ℕ} → Filling kind rs ps n i out total → n ≤ i
-    → (_≡_ {A = M.Machine} (record { parties = n; party = map viewParty (out .party); queue = map (viewQueue (viewKind (out .kind))) (out .queue) })
-    (tables most n (openQueues width most (everyKind most (viewKind kind)) n rs ps)))
-    × (total ≡ baseOf n (openQueues width most (everyKind most (viewKind kind)) n rs ps))
+pub filling-ends : {kind : Kind} {rs ps : List ℕ} {n i : ℕ} {out : Machine} {total : ℕ} → Filling kind rs ps n i out total → n ≤ i
+    → (_≡_ {A = Machine} (record { parties = n; party = out .party; queue = out .queue })
+    (tables most n (openQueues width most (everyKind most kind) n rs ps)))
+    × (total ≡ baseOf n (openQueues width most (everyKind most kind) n rs ps))
 filling-ends {kind} {rs} {ps} {n} {i} {out} f h =
     let e : i ≡ n = omega (arith, f .within) in (
-      fill-ends out kind (f .same) (f .is) n ∙ ap (λ (j : ℕ). tables most n (openQueues width most (everyKind most (viewKind kind)) j rs ps)) e,
-      f .sum ∙ ap (λ (j : ℕ). baseOf j (openQueues width most (everyKind most (viewKind kind)) j rs ps)) e,
+      ap (λ (m : Machine). record { parties = n; party = m .party; queue = m .queue }) (f .is)
+          ∙ ap (λ (j : ℕ). tables most n (openQueues width most (everyKind most kind) j rs ps)) e,
+      f .sum ∙ ap (λ (j : ℕ). baseOf j (openQueues width most (everyKind most kind) j rs ps)) e,
     )
 
 -- ---- the refusals, test by test
@@ -153,24 +134,13 @@ module _ (w most′ : ℕ) (ks : List Kind) (n : ℕ) (rs ps : List ℕ) (lent :
     unfolding openRefusal
     none-refusal e h = simp (lt-ltb 0 n some, le-leb n most′ few, e, le-leb sums lent h)
 
-  pub opened-refused : {m : M.Machine} {c : ℕ} → m ≡ tables most′ 0 (closedQueues most′ ks) → c ≡ code → 0 < c
+  pub opened-refused : {m : Machine} {c : ℕ} → m ≡ tables most′ 0 (closedQueues most′ ks) → c ≡ code → 0 < c
       → _≡_ {A = Opened} (record { machine = m; refusal = c }) (opening w most′ ks n rs ps lent)
   unfolding opening
   opened-refused {c = c} em ec h =
       (λ i. record { machine = em i; refusal = ec i }) ∙ sym (pick-no (eqb code 0) _ _ (ne-eqb code 0 (λ e. let z : c ≡ 0 = ec ∙ e in omega arith)))
 
-  pub opened-taken : {m : M.Machine} → m ≡ tables most′ n (openQueues w most′ ks n rs ps) → 0 ≡ code
+  pub opened-taken : {m : Machine} → m ≡ tables most′ n (openQueues w most′ ks n rs ps) → 0 ≡ code
       → _≡_ {A = Opened} (record { machine = m; refusal = 0 }) (opening w most′ ks n rs ps lent)
   unfolding opening
   opened-taken em ec = (λ i. record { machine = em i; refusal = 0 }) ∙ sym (pick-yes (eqb code 0) _ _ (eq-eqb code 0 (sym ec)))
-
--- the same by the kind that the blank machine has
-pub filled-as : (rs ps : List ℕ) {k kind : D.Kind} {n total : ℕ} {m : M.Machine} → k ≡ kind
-    → (m ≡ tables most n (openQueues width most (everyKind most (viewKind k)) n rs ps)) × (total ≡ baseOf n (openQueues width most (everyKind most (viewKind k)) n rs ps))
-    → (m ≡ tables most n (openQueues width most (everyKind most (viewKind kind)) n rs ps)) × (total ≡ baseOf n (openQueues width most (everyKind most (viewKind kind)) n rs ps))
-filled-as rs ps {n = n} {total} {m} e h =
-    subst (λ (x : D.Kind). (m ≡ tables most n (openQueues width most (everyKind most (viewKind x)) n rs ps)) × (total ≡ baseOf n (openQueues width most (everyKind most (viewKind x)) n rs ps))) e h
-
-pub blank-as : {k kind : D.Kind} {m : M.Machine} → k ≡ kind → m ≡ tables most 0 (closedQueues most (everyKind most (viewKind kind)))
-    → m ≡ tables most 0 (closedQueues most (everyKind most (viewKind k)))
-blank-as {m = m} e h = subst (λ (x : D.Kind). m ≡ tables most 0 (closedQueues most (everyKind most (viewKind x)))) (sym e) h

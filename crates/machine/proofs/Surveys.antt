@@ -1,31 +1,39 @@
 -- The record test party by party is the definition's.
-use Prim.Native.Nat.{ℕ, _+_, _≤_, _<_}
+use Prim.Native.Nat.{ℕ, _+_, _%_, _≤_, _<_}
 use mathlib.Core.Path.{_≡_, refl, sym, ap, ap₂, _∙_}
 use mathlib.Core.Bool.{Bool, true, false}
 use mathlib.Core.Logic.{⊎-elim}
 use native.Mathlib.Numerals.{add-one}
+use native.Mathlib.Nat.{mod-eq-of-lt}
 use native.Mathlib.Omega.{arith}
 use borrow.Author.Tests.{eq-eqb, ne-eqb, ltb-true, leb-true}
 use lib.Dec.{ltb, leb, eqb}
 use Rattle.words.specs.Word.{pick, powBelow}
-use Rattle.tables.specs.Rule.{Kind}
-use Rattle.tables.specs.Machine.{Queue, Party, Machine, partyAt, queueAt, baseOf}
+use Rattle.tables.specs.declared.state.Kind.{Kind}
+use Rattle.tables.specs.declared.state.Machine.{Machine}
+use Rattle.tables.specs.declared.state.Party.{Party}
+use Rattle.tables.specs.declared.state.Queue.{Queue}
+use Rattle.tables.specs.Machine.{partyAt, queueAt, baseOf}
 use Rattle.tables.specs.Tables.{sourceOf, hasPlace}
 use Rattle.tables.specs.Step.{andb, kindAt, placeAt, soundAt, soundTo, sound}
 use Rattle.tables.proofs.Bases.{base-more}
 use Rattle.tables.proofs.Bools.{equal-or-not, pick-if, pick-yes, pick-no}
-use Rattle.machine.specs.Desk.{Survey, fine, surveyed, passed}
+use Rattle.machine.specs.declared.soundness.Survey.{Survey}
+use Rattle.machine.specs.Desk.{fine, surveyed, passed}
 
--- where all queues are of one kind, a place is read against that kind
-pub fine-is : (w : ℕ) (m : Machine) (k : Kind) → ((q : ℕ) → q < m .parties → kindAt m q ≡ k) → (i : ℕ) → i < m .parties
-    → soundAt w m i ≡ fine w k (m .parties) i (placeAt m i) (queueAt m i .capacity)
-fine-is w m k kinds i h = ap (andb (powBelow w (queueAt m i .capacity))) (at (ltb source (m .parties)) refl)
+-- a place is read against the source's kind as it is looked up: of a source that is there, the place of the table is its own
+pub fine-is : (w most : ℕ) (m : Machine) → m .parties ≤ most → (i : ℕ) (from : Kind) → from ≡ kindAt m (sourceOf i (placeAt m i) % most)
+    → soundAt w m i ≡ fine w (m .parties) (sourceOf i (placeAt m i)) from (placeAt m i) (queueAt m i)
+fine-is w most m few i from is = ap (andb (powBelow w (queueAt m i .capacity))) (at (ltb source (m .parties)) refl)
   where
     source : ℕ
     source = sourceOf i (placeAt m i)
 
-    at : (b : Bool) → ltb source (m .parties) ≡ b → andb b (hasPlace (kindAt m i) (kindAt m source) (placeAt m i)) ≡ andb b (hasPlace k k (placeAt m i))
-    at true e = ap₂ (λ (x y : Kind). hasPlace x y (placeAt m i)) (kinds i h) (kinds source (ltb-true source (m .parties) e))
+    at : (b : Bool) → ltb source (m .parties) ≡ b
+        → andb b (hasPlace (kindAt m i) (kindAt m source) (placeAt m i)) ≡ andb b (hasPlace (kindAt m i) from (placeAt m i))
+    at true e =
+        ap (λ (k : Kind). hasPlace (kindAt m i) k (placeAt m i))
+        (sym (is ∙ ap (kindAt m) (mod-eq-of-lt (omega (arith, ltb-true source (m .parties) e)))))
     at false e = refl
 
 -- what the first i parties have shown
@@ -45,12 +53,11 @@ noted-start l i j total old et eo h =
     ⊎-elim (λ e. pick-yes (eqb i j) total old (eq-eqb i j e) ∙ et ∙ ap l e)
     (λ n. pick-no (eqb i j) total old (ne-eqb i j n) ∙ eo (omega arith)) (equal-or-not i j)
 
-pub survey-more : (w : ℕ) (m : Machine) (who f i : ℕ) (s : Survey) (k : Kind) (p : Party) (q : Queue) → Surveyed w m who f i s → p ≡ partyAt m i → q ≡ queueAt m i
-    → soundAt w m i ≡ fine w k (m .parties) i (placeAt m i) (queueAt m i .capacity)
-    → Surveyed w m who f (i + 1) (surveyed w k (m .parties) who f i s p q)
+pub survey-more : (w : ℕ) (m : Machine) (who f i : ℕ) (s : Survey) (good : Bool) (q : Queue) → Surveyed w m who f i s → q ≡ queueAt m i
+    → soundAt w m i ≡ good → Surveyed w m who f (i + 1) (surveyed who f i s good q)
 unfolding soundTo
-survey-more w m who f i s k p q v ep eq es = record {
-  sound-is = rw (add-one, ep, eq) (ap₂ andb (v .sound-is) (sym es));
+survey-more w m who f i s good q v eq es = record {
+  sound-is = rw add-one (ap₂ andb (v .sound-is) (sym es));
   total-is = rw (base-more, eq) (ap (λ (n : ℕ). n + queueAt m i .capacity) (v .total-is));
   own-is = noted-start (λ (n : ℕ). baseOf n (m .queue)) i who (s .total) (s .own) (v .total-is) (v .own-is);
   source-is = noted-start (λ (n : ℕ). baseOf n (m .queue)) i f (s .total) (s .source) (v .total-is) (v .source-is);

@@ -1,4 +1,3 @@
-pub mod Act
 pub mod Note
 pub mod Desk
-pub mod View
+pub mod Rest

@@ -1,46 +1,31 @@
--- The effects of a run alone in three fields: one more noted. proofs/ shows that it is the list's `noted`, cut at three.
-use Prim.Native.Nat.{ℕ, _+_, _<_, _^_}
+-- The effects of a run alone in an array of three: one more noted. proofs/ shows that it is the list's `noted`, where that has three
+-- at most.
+use Prim.Native.Nat.{ℕ, _+_, _-_, _<_, _^_}
 use mathlib.Core.Bool.{Bool}
-use mathlib.Core.List.{[]}
 use lib.Dec.{ltb, eqb}
+use lib.ListN.{getD, set}
 use Rattle.words.specs.Word.{pick}
-use Rattle.tables.specs.Effect as E
-use Rattle.tables.specs.Effect.{Effect, isNothing, drops}
-use Rattle.tables.specs.Step.{andb, noEffect}
-use Rattle.machine.specs.Act.{Effects, threeEffects}
+use Rattle.tables.specs.declared.answer.Effect.{Effect}
+use Rattle.tables.specs.declared.answer.Effects.{Effects}
+use Rattle.tables.specs.Effect.{isNone, dropsOf, noEffect}
+use Rattle.tables.specs.Step.{joins, merged}
 
-abbrev pub noEffects : Effects
-noEffects = threeEffects []
+abbrev pub with′ : Effects → ℕ → Effect → (count : ℕ) → Effects
+with′ l i e n = record { count = n; list = set (l .list) i e }
 
-abbrev pub joins : Effect → Effect → Bool
-joins x e = andb (ltb 0 (drops (x .deed))) (ltb 0 (drops (e .deed)))
+abbrev pub last : Effects → Effect
+last l = getD (l .list) (l .count - 1) noEffect
 
-abbrev pub merged : Effect → Effect → Effect
-merged x e = record { party = e .party; queue = e .queue; deed = E.dropped (drops (x .deed) + drops (e .deed)) }
-
-abbrev pub of : ℕ → Effect → Effect → Effect → Effects
-of n a b c = record { count = n; first = a; second = b; third = c }
-
-abbrev pub second : Effects → Effect → Effects
-second l e = pick (joins (l .first) e) (of 1 (merged (l .first) e) (l .third) (l .third)) (of 2 (l .first) e (l .third))
-
-abbrev pub third : Effects → Effect → Effects
-third l e =
-    pick (joins (l .second) e) (of 2 (l .first) (merged (l .second) e) (l .third)) (of 3 (l .first) (l .second) e)
-
-abbrev pub last : Effects → Effect → Effects
-last l e = pick (joins (l .third) e) (of 3 (l .first) (l .second) (merged (l .third) e)) l
-
-abbrev pub noteSome : Effects → Effect → Effects
-noteSome l e =
-    pick (eqb (l .count) 0) (of 1 e (l .third) (l .third))
-    (pick (eqb (l .count) 1) (second l e) (pick (eqb (l .count) 2) (third l e) (last l e)))
+-- after the first: merged with the last, or put behind it where there is a place
+abbrev pub noteMore : Effects → Effect → Effects
+noteMore l e =
+    pick (ltb 3 (l .count)) l
+    (pick (joins (last l) e) (with′ l (l .count - 1) (merged (last l) e) (l .count))
+    (pick (eqb (l .count) 3) l (with′ l (l .count) e (l .count + 1))))
 
 abbrev pub note : Effects → Effect → Effects
-note l e = pick (isNothing (e .deed)) l (noteSome l e)
+note l e = pick (isNone (e .change)) l (pick (eqb (l .count) 0) (with′ l 0 e 1) (noteMore l e))
 
 -- what is dropped in all fits the count
-pub record CountFits (l : Effects) (e : Effect) : Type 0 where
-  pub first : drops (l .first .deed) + drops (e .deed) < 2 ^ 64
-  pub second : drops (l .second .deed) + drops (e .deed) < 2 ^ 64
-  pub third : drops (l .third .deed) + drops (e .deed) < 2 ^ 64
+abbrev pub CountFits : Effects → Effect → Type 0
+CountFits l e = dropsOf (last l .change) + dropsOf (e .change) < 2 ^ 64

@@ -1,221 +1,118 @@
 // The machine: a table of party records and queue words, handed in and back. Open it, then begin, step and run alone.
 ghost use mathlib.Core.Path.{_≡_};
-ghost use Rattle.words.specs.Edition.{width};
 ghost use mathlib.Core.List.{List};
-ghost use Prim.Native.Nat.{ℕ, _<_};
+ghost use Prim.Native.Nat.{ℕ, _%_, _<_};
+ghost use Rattle.words.specs.Edition.{width};
+ghost use Rattle.tables.specs.Machine.{most};
 ghost use Rattle.tables.specs.Step as St;
-ghost use Rattle.queue.specs.View as Q;
-ghost use Rattle.machine.specs.Act as Ac;
 ghost use Rattle.machine.specs.Desk as D;
-ghost use Rattle.machine.specs.View as Vw;
-ghost use Rattle.machine.specs.View.{most};
-use queue::Access;
-use queue::Answer;
-use queue::Call;
-use queue::Deed;
-use queue::Drain;
-use queue::Kind;
-use queue::Mark;
-use queue::Place;
-use queue::Queue;
-use queue::Sight;
+use queue::places;
+use tables::call::Act;
+use tables::call::Call;
+use tables::call::Mark;
+use tables::state::Acted;
+use tables::state::MOST;
+use tables::state::Machine;
 
-pub mod deeds; // what a step has done, and the few effects of a run alone
-pub mod turn; // one party with its own queue and its source's
-pub mod test; // the record test
+pub mod desk; // what a step sees of the machine
+pub mod effects; // what a step has done, and the few effects of a run alone
+pub mod turn; // one party's act on its desk
+pub mod soundness; // the record test
 pub mod open; // a fresh machine
 pub mod rest; // what rests in a queue
 
-pub const MOST: usize = 16;
-
-pub struct Party {
-    pub place: Place,
-    pub drain: Drain,
-}
-
-pub struct Machine {
-    pub kind: Kind,
-    pub parties: u32,
-    pub party: [Party; MOST],
-    pub queue: [Queue; MOST],
-}
-
-pub struct Effect {
-    pub party: u64,
-    pub queue: u64,
-    pub deed: Deed,
-}
-
-// A run alone has at most three, dropped ones in a row as one; any other act has one at most.
-pub struct Effects {
-    pub count: u32,
-    pub first: Effect,
-    pub second: Effect,
-    pub third: Effect,
-}
-
-pub enum Act {
-    Begin(Call),
-    Step(Mark),
-    Alone(u64),
-}
-
-pub struct Acted {
-    pub machine: Machine,
-    pub answer: Answer,
-    pub effects: Effects,
-    pub steps: u64,
-    pub refusal: u8,
-}
-
-pub struct Opened {
-    pub machine: Machine,
-    pub refusal: u8,
-}
-
-// What a step looks at: a party, its own queue and its source's. Where the two are one queue, `own` has its words.
-pub struct Desk {
-    pub party: Party,
-    pub own: Queue,
-    pub source: Queue,
-}
-
-// Whose step it is, which source it has, and where the two stretches start.
-pub struct Look {
-    pub who: u64,
-    pub from: u64,
-    pub own: usize,
-    pub source: usize,
-}
-
-// What the record test has found so far, and where the two queues' stretches start.
-pub struct Survey {
-    pub sound: bool,
-    pub total: usize,
-    pub own: usize,
-    pub source: usize,
-}
-
-pub struct Reached {
-    pub sight: Sight,
-    pub access: Access,
-    pub away: bool,
-    pub queue: Queue,
-    pub base: usize,
-}
-
-pub struct Did {
-    pub desk: Desk,
-    pub answer: Answer,
-    pub deed: Deed,
-    pub away: bool,
-}
-
-pub struct Ran {
-    pub desk: Desk,
-    pub answer: Answer,
-    pub effects: Effects,
-    pub steps: u64,
-}
-
-pub struct Turned {
-    pub desk: Desk,
-    pub answer: Answer,
-    pub effects: Effects,
-    pub steps: u64,
-    pub refusal: u8,
+// A place of the table for any number: the number itself, where it is in range.
+fn index(n: u64) -> usize
+    ensures { λ r. ⌜ r ≡ n % most ⌝ }
+{
+    (n % (MOST as u64)) as usize
 }
 
 // Begin, step or run alone, on any record, any items and any party number. The record goes in once and comes back once: what is
-// handed on is one party and two queues. A place is looked up by its number's remainder, which is a place of the table whatever
-// the number; a party or source that is not there is refused.
+// handed on is one party and two queues. A party or source that is not there is refused by its number, and what was looked up
+// instead goes back as it came.
 pub fn apply(m: Machine, items: &mut [u64], who: u64, act: Act) -> Acted
-    ensures { λ r. ⌜ Vw.viewActed r (now (items .exit)) ≡ Ac.acted width most (Vw.viewMachine m) (now (items .entry)) who (Vw.viewAct act) ⌝ }
+    ensures { λ r. ⌜ St.resultOf r (now (items .exit)) ≡ St.acted width most m (now (items .entry)) who act ⌝ }
 {
-    let kind = m.kind;
     let parties = m.parties;
-    let x = (who % 16) as usize;
+    let x = index(who);
     let party = m.party[x];
     let place = party.place;
-    let from = queue::places::source_of(who, place);
-    let y = (from % 16) as usize;
+    let from = places::source_of(who, place);
+    let y = index(from);
     let own = m.queue[x];
     let source = m.queue[y];
-    let bound = test::bound(parties);
-    let mut s = test::nothing();
+    let bound = soundness::bound(parties);
+    let mut s = soundness::nothing();
     let mut i: usize = 0;
     while i < bound {
         let p = m.party[i];
         let q = m.queue[i];
-        s = test::surveyed(s, kind, parties, i as u64, p, q, who, from);
+        let at = p.place;
+        let f = places::source_of(i as u64, at);
+        let j = index(f);
+        let g = m.queue[j];
+        let kind = g.kind;
+        s = soundness::surveyed(
+            s,
+            i as u64,
+            soundness::fine(parties, f, kind, at, q),
+            q,
+            who,
+            from,
+        );
         i += 1;
     }
-    let ok = test::passed(s, parties, items.len());
-    let look = Look {
+    let ok = soundness::passed(s, parties, items.len());
+    let l = desk::Stretches {
         who: who,
         from: from,
         own: s.own,
         source: s.source,
     };
-    let t = turn::turned(
-        kind,
-        ok,
-        parties,
-        look,
-        Desk {
-            party: party,
-            own: own,
-            source: source,
-        },
-        items,
-        act,
-    );
-    put_back(m, x, y, t)
+    let d = desk::Desk {
+        party: party,
+        own: own,
+        source: source,
+    };
+    put_back(m, x, y, turn::turned(ok, parties, l, d, items, act))
 }
 
-fn put_back(m: Machine, x: usize, y: usize, t: Turned) -> Acted
-    requires { ⌜ (x < 16) × (y < 16) ⌝ }
-    ensures { λ r. ⌜ ((xs : List ℕ) → Vw.viewActed r xs ≡ D.putActed (Vw.viewMachine m) x y (Vw.viewTurned (Q.viewKind (m .kind)) t xs)) ⌝ }
+fn put_back(m: Machine, x: usize, y: usize, t: desk::Turn) -> Acted
+    requires { ⌜ (x < most) × (y < most) ⌝ }
+    ensures { λ r. ⌜ ((xs : List ℕ) → St.resultOf r xs ≡ D.putResult m x y (D.with t xs)) ⌝ }
 {
     let mut out = m;
-    let desk = t.desk;
-    let party = desk.party;
-    let own = desk.own;
-    let source = desk.source;
+    let party = t.desk.party;
+    let own = t.desk.own;
+    let source = t.desk.source;
     out.party[x] = party;
     out.queue[y] = source;
     out.queue[x] = own;
-    let answer = t.answer;
-    let effects = t.effects;
+    let reply = t.reply;
     Acted {
         machine: out,
-        answer: answer,
-        effects: effects,
-        steps: t.steps,
-        refusal: t.refusal,
+        reply: reply,
     }
 }
 
 // Begin a call: it touches no word.
 pub fn begin(m: Machine, items: &mut [u64], who: u64, call: Call) -> Acted
-    ensures { λ r. ⌜ Vw.viewActed r (now (items .exit))
-        ≡ Ac.ofOutcome (St.begin width most (Vw.viewMachine m) (now (items .entry)) who (Q.viewCall call)) ⌝ }
+    ensures { λ r. ⌜ St.resultOf r (now (items .exit)) ≡ St.ofOutcome (St.begin width most m (now (items .entry)) who call) ⌝ }
 {
     apply(m, items, who, Act::Begin(call))
 }
 
 // One step of a call, with its mark.
 pub fn step(m: Machine, items: &mut [u64], who: u64, mark: Mark) -> Acted
-    ensures { λ r. ⌜ Vw.viewActed r (now (items .exit))
-        ≡ Ac.ofOutcome (St.step width most (Vw.viewMachine m) (now (items .entry)) who (Q.viewMark mark)) ⌝ }
+    ensures { λ r. ⌜ St.resultOf r (now (items .exit)) ≡ St.ofOutcome (St.step width most m (now (items .entry)) who mark) ⌝ }
 {
     apply(m, items, who, Act::Step(mark))
 }
 
 // Run alone: plain steps of one party, up to a budget.
 pub fn run_alone(m: Machine, items: &mut [u64], who: u64, budget: u64) -> Acted
-    ensures { λ r. ⌜ Vw.viewActed r (now (items .exit))
-        ≡ Ac.ofAlone (St.alone width most (Vw.viewMachine m) (now (items .entry)) who budget) ⌝ }
+    ensures { λ r. ⌜ St.resultOf r (now (items .exit)) ≡ St.ofAlone (St.alone width most m (now (items .entry)) who budget) ⌝ }
 {
     apply(m, items, who, Act::Alone(budget))
 }

@@ -2,22 +2,22 @@
 ghost use mathlib.Core.Path.{_≡_};
 ghost use mathlib.Core.Bool.{false};
 ghost use Prim.Native.Nat.{_-_, _≤_, _^_};
+ghost use lib.ListN.{length};
 ghost use Rattle.words.specs.Edition.{width};
 ghost use Rattle.words.specs.Word.{orb};
 ghost use Rattle.tables.specs.Machine as M;
+ghost use Rattle.tables.specs.Machine.{most};
 ghost use Rattle.tables.specs.Step as St;
-ghost use Rattle.queue.specs.View as Q;
-ghost use Rattle.machine.specs.View as Vw;
-ghost use Rattle.machine.specs.View.{most, everyKind};
-use super::MOST;
-use super::Machine;
-use super::Opened;
-use super::Party;
-use queue::Drain;
-use queue::Kind;
-use queue::Place;
-use queue::Queue;
+use tables::place::Place;
+use tables::state::Drain;
+use tables::state::Kind;
+use tables::state::MOST;
+use tables::state::Machine;
+use tables::state::Opened;
+use tables::state::Party;
+use tables::state::Queue;
 
+// A machine with its queues opened, and the sum of their capacities.
 struct Filled {
     machine: Machine,
     total: u64,
@@ -25,38 +25,24 @@ struct Filled {
 
 // No parties, all places idle, all words 0.
 fn blank(kind: Kind) -> Machine
-    ensures { λ r. ⌜ (r .kind ≡ kind) × (Vw.viewMachine r ≡ St.tables most 0 (St.closedQueues most (everyKind most (Q.viewKind kind)))) ⌝ }
+    ensures { λ r. ⌜ r ≡ St.tables most 0 (St.closedQueues most (St.everyKind most kind)) ⌝ }
 {
     let party = Party {
         place: Place::Idle,
         drain: Drain { at: 0, end: 0 },
     };
     let queue = Queue {
+        kind: kind,
         capacity: 0,
-        count: 0,
+        pushes: 0,
         packed: 0,
-        done: 0,
+        completed: 0,
     };
     Machine {
-        kind: kind,
         parties: 0,
         party: [party; MOST],
         queue: [queue; MOST],
     }
-}
-
-// Whether one of the first n requests is above the largest capacity.
-fn over(requests: [u64; MOST], n: usize) -> bool
-    requires { ⌜ n ≤ most ⌝ }
-    ensures { λ r. ⌜ r ≡ St.overTo width requests n ⌝ }
-{
-    let mut found = false;
-    let mut i: usize = 0;
-    while i < n {
-        found = either(found, 0x8000_0000 < requests[i]);
-        i += 1;
-    }
-    found
 }
 
 fn either(a: bool, b: bool) -> bool
@@ -65,43 +51,64 @@ fn either(a: bool, b: bool) -> bool
     if a { true } else { b }
 }
 
+// Whether one of the first n requests is above the largest capacity.
+fn over(requests: [u64; MOST], n: usize) -> bool
+    requires { ⌜ n ≤ most ⌝ }
+    ensures { λ r. ⌜ r ≡ St.overTo width requests n ⌝ }
+{
+    let largest = words::largest_capacity();
+    let mut found = false;
+    let mut i: usize = 0;
+    while i < n {
+        found = either(found, largest < requests[i]);
+        i += 1;
+    }
+    found
+}
+
 // LIFO: push count p, pop count 0, both heads p; FIFO: all p.
 fn fresh(kind: Kind, request: u64, position: u32) -> Queue
     requires { ⌜ request ≤ 2 ^ (width - 1) ⌝ }
-    ensures { λ r. ⌜ Q.viewQueue (Q.viewKind kind) r ≡ St.openQueue width (Q.viewKind kind) request position ⌝ }
+    ensures { λ r. ⌜ r ≡ St.openQueue width kind request position ⌝ }
 {
     let capacity = words::capacity(request);
     match kind {
         Kind::Lifo => {
             Queue {
+                kind: Kind::Lifo,
                 capacity: capacity,
-                count: position,
+                pushes: position,
                 packed: words::pack(0, position),
-                done: position,
+                completed: position,
             }
         }
         Kind::Fifo => {
             Queue {
+                kind: Kind::Fifo,
                 capacity: capacity,
-                count: position,
+                pushes: position,
                 packed: words::pack(position, position),
-                done: 0,
+                completed: 0,
             }
         }
     }
 }
 
-// The first n queues opened in a blank machine, and the sum of their capacities.
-fn fill(machine: Machine, requests: [u64; MOST], positions: [u32; MOST], n: usize) -> Filled
+// The first n queues opened in a blank machine.
+fn fill(
+    machine: Machine,
+    kind: Kind,
+    requests: [u64; MOST],
+    positions: [u32; MOST],
+    n: usize,
+) -> Filled
     requires { ⌜ n ≤ most ⌝ }
     requires { ⌜ St.overTo width requests n ≡ false ⌝ }
-    requires { ⌜ Vw.viewMachine machine ≡ St.tables most 0 (St.closedQueues most (everyKind most (Q.viewKind (machine .kind)))) ⌝ }
-    ensures { λ r. ⌜ Vw.viewMachine (r .machine)
-        ≡ St.tables most n (St.openQueues width most (everyKind most (Q.viewKind (machine .kind))) n requests positions) ⌝ }
-    ensures { λ r. ⌜ r .total ≡ M.baseOf n (St.openQueues width most (everyKind most (Q.viewKind (machine .kind))) n requests positions) ⌝ }
+    requires { ⌜ machine ≡ St.tables most 0 (St.closedQueues most (St.everyKind most kind)) ⌝ }
+    ensures { λ r. ⌜ r .machine ≡ St.tables most n (St.openQueues width most (St.everyKind most kind) n requests positions) ⌝ }
+    ensures { λ r. ⌜ r .total ≡ M.baseOf n (St.openQueues width most (St.everyKind most kind) n requests positions) ⌝ }
 {
     let mut out = machine;
-    let kind = machine.kind;
     let mut total: u64 = 0;
     let mut i: usize = 0;
     while i < n {
@@ -117,15 +124,15 @@ fn fill(machine: Machine, requests: [u64; MOST], positions: [u32; MOST], n: usiz
     }
 }
 
-// Refusals 1, 7 and 8, in that order.
+// Refusals 1, 7 and 8, in that order. Of the items only their number matters: opening writes none.
 pub fn open(
     kind: Kind,
     parties: u64,
     requests: [u64; MOST],
     positions: [u32; MOST],
-    lent: u64,
+    items: &[u64],
 ) -> Opened
-    ensures { λ r. ⌜ Vw.viewOpened r ≡ St.opening width most (everyKind most (Q.viewKind kind)) parties requests positions lent ⌝ }
+    ensures { λ r. ⌜ r ≡ St.opening width most (St.everyKind most kind) parties requests positions (length (now (items .entry))) ⌝ }
 {
     let closed = blank(kind);
     if parties == 0 {
@@ -134,7 +141,7 @@ pub fn open(
             refusal: 1,
         };
     }
-    if 16 < parties {
+    if (MOST as u64) < parties {
         return Opened {
             machine: closed,
             refusal: 1,
@@ -147,8 +154,8 @@ pub fn open(
             refusal: 7,
         };
     }
-    let f = fill(closed, requests, positions, n);
-    if lent < f.total {
+    let f = fill(closed, kind, requests, positions, n);
+    if (items.len() as u64) < f.total {
         return Opened {
             machine: closed,
             refusal: 8,

@@ -1,78 +1,85 @@
-// One party's step, with its own queue and its source's: the whole machine is not handed from function to function.
+// One party's act on its desk.
 ghost use mathlib.Core.Path.{_≡_};
-ghost use mathlib.Core.Bool.{Bool, true, not};
-ghost use mathlib.Core.List.{List, []};
+ghost use mathlib.Core.Bool.{true};
+ghost use mathlib.Core.List.{List};
 ghost use Prim.Native.Nat.{ℕ, _+_, _≤_, _<_, _^_};
 ghost use lib.ListN.{length};
 ghost use Rattle.words.specs.Edition.{width};
-ghost use Rattle.words.specs.Word.{orb};
-ghost use Rattle.tables.specs.Rule as R;
-ghost use Rattle.tables.specs.Answer.{isPending};
-ghost use Rattle.tables.specs.Tables as T;
+ghost use Rattle.tables.specs.Access as X;
 ghost use Rattle.tables.specs.Step as St;
-ghost use Rattle.queue.specs.View as Q;
 ghost use Rattle.machine.specs.Desk as D;
-ghost use Rattle.machine.specs.View as Vw;
-use super::Act;
-use super::Desk;
-use super::Did;
-use super::Effect;
-use super::Effects;
-use super::Look;
-use super::Party;
-use super::Ran;
-use super::Reached;
-use super::Turned;
-use super::deeds;
-use queue::Answer;
-use queue::Call;
-use queue::Drain;
-use queue::Kind;
-use queue::Mark;
-use queue::Next;
-use queue::Performed;
-use queue::Place;
-use queue::Queue;
-use queue::Sight;
-use queue::Whose;
+use super::desk::Desk;
+use super::desk::Reached;
+use super::desk::Stepped;
+use super::desk::Stretches;
+use super::desk::Turn;
+use super::effects;
+use queue::memory::Performed;
+use queue::places;
+use tables::access::Access;
+use tables::access::Context;
+use tables::access::Next;
+use tables::access::Whose;
+use tables::answer::Answer;
+use tables::answer::Effects;
+use tables::answer::Reply;
+use tables::call::Act;
+use tables::call::Call;
+use tables::call::Mark;
+use tables::place::Place;
+use tables::state::Party;
+use tables::state::Queue;
 
-fn sight_of(kind: Kind, desk: Desk, mark: Mark) -> Sight
-    ensures { λ r. ⌜ Q.viewSight r ≡ D.deskSight (Vw.viewDesk (Q.viewKind kind) desk) (Q.viewMark mark) ⌝ }
+// ---- one step
+
+fn context_of(desk: Desk, mark: Mark) -> Context
+    ensures { λ r. ⌜ r ≡ D.deskContext desk mark ⌝ }
 {
     let drain = desk.party.drain;
-    Sight {
+    let own = desk.own;
+    let source = desk.source;
+    let kind = own.kind;
+    let from = source.kind;
+    Context {
         kind: kind,
-        capacity: desk.own.capacity,
-        from: kind,
+        capacity: own.capacity,
+        from: from,
         drain: drain,
         mark: mark,
     }
 }
 
 // The source's queue is another one than the own.
-fn is_away(whose: Whose, look: Look) -> bool
-    ensures { λ r. ⌜ r ≡ D.away (Q.viewWhose whose) (Vw.viewLook look .same) ⌝ }
+fn is_away(whose: Whose, l: Stretches) -> bool
+    ensures { λ r. ⌜ r ≡ D.away whose (D.same l) ⌝ }
 {
     match whose {
-        Whose::Mine => false,
-        Whose::Theirs => look.from != look.who,
+        Whose::Own => false,
+        Whose::Source => l.from != l.who,
     }
 }
 
 fn queue_for(away: bool, desk: Desk) -> Queue
-    ensures { λ r. ⌜ ((k : R.Kind) → Q.viewQueue k r ≡ D.queueFor away (Vw.viewDesk k desk)) ⌝ }
+    ensures { λ r. ⌜ r ≡ D.queueFor away desk ⌝ }
 {
     if away { desk.source } else { desk.own }
 }
 
-fn base_for(away: bool, look: Look) -> usize
-    ensures { λ r. ⌜ r ≡ D.baseFor away (Vw.viewLook look) ⌝ }
+fn base_for(away: bool, l: Stretches) -> usize
+    ensures { λ r. ⌜ r ≡ D.baseFor away l ⌝ }
 {
-    if away { look.source } else { look.own }
+    if away { l.source } else { l.own }
+}
+
+// The number of the queue that a step reaches.
+fn site_for(away: bool, l: Stretches) -> u64
+    ensures { λ r. ⌜ r ≡ D.siteFor away l ⌝ }
+{
+    if away { l.from } else { l.who }
 }
 
 fn desk_with(away: bool, desk: Desk, queue: Queue, next: Next) -> Desk
-    ensures { λ r. ⌜ ((k : R.Kind) → Vw.viewDesk k r ≡ D.deskWith away (Vw.viewDesk k desk) (Q.viewQueue k queue) (Q.viewNext next)) ⌝ }
+    ensures { λ r. ⌜ r ≡ D.deskWith away desk queue next ⌝ }
 {
     let place = next.place;
     let drain = next.drain;
@@ -98,7 +105,7 @@ fn desk_with(away: bool, desk: Desk, queue: Queue, next: Next) -> Desk
 }
 
 fn is_weak(mark: Mark) -> bool
-    ensures { λ r. ⌜ r ≡ St.isWeak (Q.viewMark mark) ⌝ }
+    ensures { λ r. ⌜ r ≡ St.isWeak mark ⌝ }
 {
     match mark {
         Mark::Plain => false,
@@ -108,45 +115,21 @@ fn is_weak(mark: Mark) -> bool
     }
 }
 
-// The step's access is made: on from there.
-fn went(desk: Desk, r: Reached, done: Performed) -> Did
-    requires { ⌜ 1 ≤ r .sight .capacity ⌝ }
-    ensures { λ o. ⌜ ((k : R.Kind) (slots items : List ℕ) → Vw.viewDid k o items
-        ≡ D.went width (Vw.viewDesk k desk) (Vw.viewReached k r) (Q.viewAccessed k done slots) items) ⌝ }
+// The one look at the row: which queue the step reaches, where its stretch starts, and the access it makes there.
+fn reached(l: Stretches, desk: Desk, mark: Mark) -> Reached
+    ensures { λ r. ⌜ r ≡ D.reach width l desk mark ⌝ }
 {
     let party = desk.party;
     let place = party.place;
-    let s = r.sight;
-    let seen = done.seen;
-    let changed = done.queue;
-    let next = queue::advance(place, s, seen);
-    let answer = next.answer;
-    let deed = next.deed;
-    let away = r.away;
-    Did {
-        desk: desk_with(away, desk, changed, next),
-        answer: answer,
-        deed: deed,
-        away: away,
-    }
-}
-
-// Which queue the step reaches, where its stretch starts, and the access it makes there.
-fn reached(kind: Kind, look: Look, desk: Desk, mark: Mark) -> Reached
-    ensures { λ r. ⌜ Vw.viewReached (Q.viewKind kind) r
-        ≡ D.reach width (Vw.viewLook look) (Vw.viewDesk (Q.viewKind kind) desk) (Q.viewMark mark) ⌝ }
-{
-    let party = desk.party;
-    let place = party.place;
-    let s = sight_of(kind, desk, mark);
-    let want = queue::wants(place, s);
+    let context = context_of(desk, mark);
+    let want = queue::wants(place, context);
     let whose = want.whose;
     let access = want.access;
-    let away = is_away(whose, look);
+    let away = is_away(whose, l);
     let q = queue_for(away, desk);
-    let base = base_for(away, look);
+    let base = base_for(away, l);
     Reached {
-        sight: s,
+        context: context,
         access: access,
         away: away,
         queue: q,
@@ -154,139 +137,131 @@ fn reached(kind: Kind, look: Look, desk: Desk, mark: Mark) -> Reached
     }
 }
 
-// One step that nothing refuses: only the reached queue's own stretch is lent on.
-fn one(kind: Kind, look: Look, desk: Desk, items: &mut [u64], mark: Mark) -> Did
-    requires { ⌜ D.Ready (Vw.viewLook look) (Vw.viewDesk (Q.viewKind kind) desk) (length (now items)) ⌝ }
-    ensures { λ r. ⌜ Vw.viewDid (Q.viewKind kind) r (now (items .exit))
-        ≡ D.deskStep width (Vw.viewLook look) (Vw.viewDesk (Q.viewKind kind) desk) (now (items .entry)) (Q.viewMark mark) ⌝ }
+// The place after the access, the answer and the effect.
+fn follows(l: Stretches, desk: Desk, r: Reached, queue: Queue, next: Next) -> Stepped
+    ensures { λ o. ⌜ o ≡ D.follows l desk r queue next ⌝ }
 {
-    let r = reached(kind, look, desk, mark);
+    let away = r.away;
+    let answer = next.answer;
+    let change = next.change;
+    let site = site_for(away, l);
+    Stepped {
+        desk: desk_with(away, desk, queue, next),
+        answer: answer,
+        effect: effects::effect_of(l.who, site, l.from, change),
+    }
+}
+
+// The step's access is made: on from there.
+fn went(l: Stretches, desk: Desk, r: Reached, done: Performed) -> Stepped
+    requires { ⌜ 1 ≤ r .context .capacity ⌝ }
+    ensures { λ o. ⌜ ((slots : List ℕ) → o ≡ D.went width l desk r (X.shows (done .queue) slots (done .seen))) ⌝ }
+{
+    let party = desk.party;
+    let place = party.place;
+    let context = r.context;
+    let seen = done.seen;
+    let changed = done.queue;
+    follows(l, desk, r, changed, queue::advance(place, context, seen))
+}
+
+// One step that nothing refuses: only the reached queue's own stretch is lent on.
+fn taken(l: Stretches, desk: Desk, r: Reached, items: &mut [u64], mark: Mark) -> Stepped
+    requires { ⌜ D.Ready l desk (length (now items)) ⌝ }
+    requires { ⌜ r ≡ D.reach width l desk mark ⌝ }
+    ensures { λ o. ⌜ D.with o (now (items .exit)) ≡ D.deskStep width l desk (now (items .entry)) mark ⌝ }
+{
     let q = r.queue;
     let access = r.access;
     let base = r.base;
     let end = base + q.capacity as usize;
     let done = queue::memory::perform(q, &mut items[base..end], access, is_weak(mark));
-    went(desk, r, done)
+    went(l, desk, r, done)
 }
 
-pub fn is_pending(answer: Answer) -> bool
-    ensures { λ r. ⌜ r ≡ isPending (Q.viewAnswer answer) ⌝ }
+// ---- run alone
+
+fn turn_with(desk: Desk, answer: Answer, effects: Effects, steps: u64, refusal: u8) -> Turn
+    ensures { λ r. ⌜ r ≡ D.turnWith desk answer effects steps refusal ⌝ }
 {
-    match answer {
-        Answer::Pending => true,
-        Answer::Pushed => false,
-        Answer::Full(_) => false,
-        Answer::Popped(_) => false,
-        Answer::None => false,
-        Answer::Extended(_) => false,
-        Answer::Stolen(_) => false,
-        Answer::Taken { token: _, count: _ } => false,
-        Answer::Drain(_) => false,
-        Answer::Item(_) => false,
-        Answer::Done => false,
-        Answer::Closed => false,
-        Answer::Busy => false,
-        Answer::Empty => false,
-        Answer::Spare(_) => false,
-        Answer::Yes => false,
-        Answer::No => false,
+    let reply = Reply {
+        answer: answer,
+        effects: effects,
+        steps: steps,
+        refusal: refusal,
+    };
+    Turn {
+        desk: desk,
+        reply: reply,
     }
 }
 
 // A run alone stops at an answer, or before a step that needs a number or end.
 fn stops(answer: Answer, place: Place) -> bool
-    ensures { λ r. ⌜ r ≡ orb (not (isPending (Q.viewAnswer answer))) (T.wishes (T.wishOf (Q.viewPlace place))) ⌝ }
+    ensures { λ r. ⌜ r ≡ St.stopsAt answer place ⌝ }
 {
-    if is_pending(answer) {
-        queue::places::wishes(queue::places::wish_of(place))
+    if tables::answer::is_pending(answer) {
+        places::wishes(places::wish_of(place))
     } else {
         true
     }
 }
 
-fn effect_of(look: Look, did: Did) -> Effect
-    ensures { λ r. ⌜ ((k : R.Kind) (xs : List ℕ) → Vw.viewEffect r ≡ D.deskEffect (look .who) (look .from) (Vw.viewDid k did xs)) ⌝ }
+// One plain step more of a run alone.
+fn onward(l: Stretches, t: Turn, items: &mut [u64]) -> Turn
+    requires { ⌜ D.Ready l (t .desk) (length (now items)) ⌝ }
+    requires { ⌜ D.Roomy (t .reply .effects) ⌝ }
+    requires { ⌜ t .reply .steps + 1 < 2 ^ 64 ⌝ }
+    ensures { λ r. ⌜ D.with r (now (items .exit)) ≡ D.turnOn t (D.deskStep width l (t .desk) (now (items .entry)) Mark.Plain) ⌝ }
 {
-    let deed = did.deed;
-    if did.away {
-        deeds::effect_of(look.who, look.from, look.from, deed)
-    } else {
-        deeds::effect_of(look.who, look.who, look.from, deed)
-    }
+    let desk = t.desk;
+    let effects = t.reply.effects;
+    let steps = t.reply.steps;
+    let r = reached(l, desk, Mark::Plain);
+    let o = taken(l, desk, r, &mut *items, Mark::Plain);
+    let next = o.desk;
+    let answer = o.answer;
+    let e = o.effect;
+    turn_with(next, answer, effects::note(effects, e), steps + 1, 0)
 }
 
-// One plain step more of a run alone.
-fn onward(kind: Kind, look: Look, ran: Ran, items: &mut [u64]) -> Ran
-    requires { ⌜ D.Ready (Vw.viewLook look) (Vw.viewDesk (Q.viewKind kind) (ran .desk)) (length (now items)) ⌝ }
-    requires { ⌜ D.Roomy (Vw.viewEffects (ran .effects)) ⌝ }
-    requires { ⌜ ran .steps + 1 < 2 ^ 64 ⌝ }
-    ensures { λ r. ⌜ Vw.viewLone (Q.viewKind kind) r (now (items .exit))
-        ≡ D.loneOn (look .who) (look .from) (Vw.viewLone (Q.viewKind kind) ran (now (items .entry)))
-        (D.deskStep width (Vw.viewLook look) (Vw.viewDesk (Q.viewKind kind) (ran .desk)) (now (items .entry)) R.plain) ⌝ }
+fn as_came(desk: Desk, refusal: u8) -> Turn
+    ensures { λ r. ⌜ r ≡ D.asCame desk refusal ⌝ }
 {
-    let desk = ran.desk;
-    let did = one(kind, look, desk, &mut *items, Mark::Plain);
-    let e = effect_of(look, did);
-    let effects = ran.effects;
-    let all = deeds::note(effects, e);
-    let next = did.desk;
-    let answer = did.answer;
-    Ran {
-        desk: next,
-        answer: answer,
-        effects: all,
-        steps: ran.steps + 1,
-    }
+    turn_with(desk, Answer::Pending, effects::no_effects(), 0, refusal)
 }
 
 // Run alone: the party is stepped until it answers, needs a number or end, or has spent its budget.
-fn alone(kind: Kind, look: Look, desk: Desk, items: &mut [u64], budget: u64) -> Ran
-    requires { ⌜ D.Ready (Vw.viewLook look) (Vw.viewDesk (Q.viewKind kind) desk) (length (now items)) ⌝ }
-    ensures { λ r. ⌜ Vw.viewLone (Q.viewKind kind) r (now (items .exit))
-        ≡ D.loneOf (D.deskRuns width (Vw.viewLook look) (look .who) (look .from) budget
-        (D.ranNone (Vw.viewDesk (Q.viewKind kind) desk) (now (items .entry)))) ⌝ }
+fn alone(l: Stretches, desk: Desk, items: &mut [u64], budget: u64) -> Turn
+    requires { ⌜ D.Ready l desk (length (now items)) ⌝ }
+    ensures { λ r. ⌜ D.with r (now (items .exit)) ≡ D.ofRan (D.deskRuns width l budget (D.ranNone desk (now (items .entry)))) ⌝ }
 {
-    let mut ran = Ran {
-        desk: desk,
-        answer: Answer::Pending,
-        effects: deeds::no_effects(),
-        steps: 0,
-    };
+    let mut t = as_came(desk, 0);
     let out = loop {
-        if ran.steps == budget {
-            break ran;
+        if t.reply.steps == budget {
+            break t;
         }
-        let party = ran.desk.party;
+        let party = t.desk.party;
         let place = party.place;
-        let answer = ran.answer;
+        let reply = t.reply;
+        let answer = reply.answer;
         if stops(answer, place) {
-            break ran;
+            break t;
         }
-        ran = onward(kind, look, ran, &mut *items);
+        t = onward(l, t, &mut *items);
     };
     out
 }
 
-fn as_came(desk: Desk, refusal: u8) -> Turned
-    ensures { λ r. ⌜ ((k : R.Kind) (xs : List ℕ) → Vw.viewTurned k r xs ≡ D.asCame (Vw.viewDesk k desk) xs refusal) ⌝ }
-{
-    Turned {
-        desk: desk,
-        answer: Answer::Pending,
-        effects: deeds::no_effects(),
-        steps: 0,
-        refusal: refusal,
-    }
-}
+// ---- refusals, in their orders; 0 is none
 
-// Refusals 1 to 3 and 5, in that order; 0 is none.
 fn begin_code(ok: bool, parties: u32, who: u64, place: Place, call: Call) -> u8
-    ensures { λ r. ⌜ r ≡ D.beginCode ok parties who (Q.viewPlace place) (Q.viewCall call) ⌝ }
+    ensures { λ r. ⌜ r ≡ St.beginOrder ok parties who place call ⌝ }
 {
     if ok {
         if who < (parties as u64) {
-            if queue::places::is_idle(place) {
-                if queue::places::call_source(who, call) < (parties as u64) {
+            if places::is_idle(place) {
+                if places::call_source(who, call) < (parties as u64) {
                     0
                 } else {
                     5
@@ -302,13 +277,12 @@ fn begin_code(ok: bool, parties: u32, who: u64, place: Place, call: Call) -> u8
     }
 }
 
-// Refusals 1, 2 and 4; 0 is none.
 fn alone_code(ok: bool, parties: u32, who: u64, place: Place) -> u8
-    ensures { λ r. ⌜ r ≡ D.aloneCode ok parties who (Q.viewPlace place) ⌝ }
+    ensures { λ r. ⌜ r ≡ St.aloneOrder ok parties who place ⌝ }
 {
     if ok {
         if who < (parties as u64) {
-            if queue::places::is_idle(place) { 4 } else { 0 }
+            if places::is_idle(place) { 4 } else { 0 }
         } else {
             2
         }
@@ -317,34 +291,26 @@ fn alone_code(ok: bool, parties: u32, who: u64, place: Place) -> u8
     }
 }
 
-// Refusals 4 and 6.
-fn mark_code(s: Sight, place: Place) -> u8
-    ensures { λ r. ⌜ r ≡ St.markRefusal width (Q.viewSight s) (Q.viewPlace place) ⌝ }
+// No call; a mark that does not fit the row's access.
+fn mark_code(access: Access, mark: Mark, place: Place) -> u8
+    ensures { λ r. ⌜ r ≡ St.markRefusal access mark place ⌝ }
 {
-    if queue::places::is_idle(place) {
+    if places::is_idle(place) {
         return 4;
     }
-    let mark = s.mark;
-    let want = queue::wants(place, s);
-    let access = want.access;
-    if queue::places::mark_fits(
-        queue::places::wish_of(place),
-        queue::places::is_cas(access),
-        mark,
-    ) {
+    if places::mark_fits(places::wish_of(place), places::is_cas(access), mark) {
         0
     } else {
         6
     }
 }
 
-// Refusals 1, 2, 4 and 6; 0 is none.
-fn step_code(ok: bool, parties: u32, who: u64, s: Sight, place: Place) -> u8
-    ensures { λ r. ⌜ r ≡ D.stepCode width ok parties who (Q.viewSight s) (Q.viewPlace place) ⌝ }
+fn step_code(ok: bool, parties: u32, who: u64, access: Access, mark: Mark, place: Place) -> u8
+    ensures { λ r. ⌜ r ≡ St.stepOrder ok parties who access mark place ⌝ }
 {
     if ok {
         if who < (parties as u64) {
-            mark_code(s, place)
+            mark_code(access, mark, place)
         } else {
             2
         }
@@ -353,19 +319,21 @@ fn step_code(ok: bool, parties: u32, who: u64, s: Sight, place: Place) -> u8
     }
 }
 
-fn begin_turn(kind: Kind, ok: bool, parties: u32, who: u64, desk: Desk, call: Call) -> Turned
-    ensures { λ r. ⌜ ((xs : List ℕ) → Vw.viewTurned (Q.viewKind kind) r xs
-        ≡ D.beginTurn ok parties who (Vw.viewDesk (Q.viewKind kind) desk) xs (Q.viewCall call)) ⌝ }
+// ---- an act, where `ok` is the record test's result; refused, everything comes back as it came
+
+fn begin_turn(ok: bool, parties: u32, l: Stretches, desk: Desk, call: Call) -> Turn
+    ensures { λ r. ⌜ ((xs : List ℕ) → D.with r xs ≡ D.beginTurn ok parties l desk xs call) ⌝ }
 {
     let party = desk.party;
     let place = party.place;
-    let code = begin_code(ok, parties, who, place, call);
+    let code = begin_code(ok, parties, l.who, place, call);
     if code == 0 {
         let drain = party.drain;
         let own = desk.own;
         let source = desk.source;
+        let kind = own.kind;
         let begun = Party {
-            place: queue::places::start(kind, call),
+            place: places::start(kind, call),
             drain: drain,
         };
         as_came(
@@ -382,92 +350,60 @@ fn begin_turn(kind: Kind, ok: bool, parties: u32, who: u64, desk: Desk, call: Ca
 }
 
 fn step_turn(
-    kind: Kind,
     ok: bool,
     parties: u32,
-    look: Look,
+    l: Stretches,
     desk: Desk,
     items: &mut [u64],
     mark: Mark,
-) -> Turned
-    requires { ⌜ (ok ≡ true → look .who < parties → D.Ready (Vw.viewLook look) (Vw.viewDesk (Q.viewKind kind) desk) (length (now items))) ⌝ }
-    ensures { λ r. ⌜ Vw.viewTurned (Q.viewKind kind) r (now (items .exit))
-        ≡ D.stepTurn width ok parties (look .who) (look .from) (Vw.viewLook look) (Vw.viewDesk (Q.viewKind kind) desk)
-        (now (items .entry)) (Q.viewMark mark) ⌝ }
+) -> Turn
+    requires { ⌜ (ok ≡ true → l .who < parties → D.Ready l desk (length (now items))) ⌝ }
+    ensures { λ r. ⌜ D.with r (now (items .exit)) ≡ D.stepTurn width ok parties l desk (now (items .entry)) mark ⌝ }
 {
     let party = desk.party;
     let place = party.place;
-    let s = sight_of(kind, desk, mark);
-    let code = step_code(ok, parties, look.who, s, place);
+    let r = reached(l, desk, mark);
+    let access = r.access;
+    let code = step_code(ok, parties, l.who, access, mark, place);
     if code == 0 {
-        let did = one(kind, look, desk, &mut *items, mark);
-        let effects = deeds::note(deeds::no_effects(), effect_of(look, did));
-        let next = did.desk;
-        let answer = did.answer;
-        Turned {
-            desk: next,
-            answer: answer,
-            effects: effects,
-            steps: 0,
-            refusal: 0,
-        }
+        let o = taken(l, desk, r, &mut *items, mark);
+        let next = o.desk;
+        let answer = o.answer;
+        let e = o.effect;
+        turn_with(next, answer, effects::note(effects::no_effects(), e), 0, 0)
     } else {
         as_came(desk, code)
     }
 }
 
 fn alone_turn(
-    kind: Kind,
     ok: bool,
     parties: u32,
-    look: Look,
+    l: Stretches,
     desk: Desk,
     items: &mut [u64],
     budget: u64,
-) -> Turned
-    requires { ⌜ (ok ≡ true → look .who < parties → D.Ready (Vw.viewLook look) (Vw.viewDesk (Q.viewKind kind) desk) (length (now items))) ⌝ }
-    ensures { λ r. ⌜ Vw.viewTurned (Q.viewKind kind) r (now (items .exit))
-        ≡ D.aloneTurn width ok parties (look .who) (look .from) (Vw.viewLook look) (Vw.viewDesk (Q.viewKind kind) desk)
-        (now (items .entry)) budget ⌝ }
+) -> Turn
+    requires { ⌜ (ok ≡ true → l .who < parties → D.Ready l desk (length (now items))) ⌝ }
+    ensures { λ r. ⌜ D.with r (now (items .exit)) ≡ D.aloneTurn width ok parties l desk (now (items .entry)) budget ⌝ }
 {
     let party = desk.party;
     let place = party.place;
-    let code = alone_code(ok, parties, look.who, place);
+    let code = alone_code(ok, parties, l.who, place);
     if code == 0 {
-        let ran = alone(kind, look, desk, &mut *items, budget);
-        let next = ran.desk;
-        let answer = ran.answer;
-        let effects = ran.effects;
-        Turned {
-            desk: next,
-            answer: answer,
-            effects: effects,
-            steps: ran.steps,
-            refusal: 0,
-        }
+        alone(l, desk, &mut *items, budget)
     } else {
         as_came(desk, code)
     }
 }
 
-// An act of one party, where `ok` is the record test's result. Refused, everything comes back as it came.
-pub fn turned(
-    kind: Kind,
-    ok: bool,
-    parties: u32,
-    look: Look,
-    desk: Desk,
-    items: &mut [u64],
-    act: Act,
-) -> Turned
-    requires { ⌜ (ok ≡ true → look .who < parties → D.Ready (Vw.viewLook look) (Vw.viewDesk (Q.viewKind kind) desk) (length (now items))) ⌝ }
-    ensures { λ r. ⌜ Vw.viewTurned (Q.viewKind kind) r (now (items .exit))
-        ≡ D.turned width ok parties (look .who) (look .from) (Vw.viewLook look) (Vw.viewDesk (Q.viewKind kind) desk)
-        (now (items .entry)) (Vw.viewAct act) ⌝ }
+pub fn turned(ok: bool, parties: u32, l: Stretches, desk: Desk, items: &mut [u64], act: Act) -> Turn
+    requires { ⌜ (ok ≡ true → l .who < parties → D.Ready l desk (length (now items))) ⌝ }
+    ensures { λ r. ⌜ D.with r (now (items .exit)) ≡ D.turned width ok parties l desk (now (items .entry)) act ⌝ }
 {
     match act {
-        Act::Begin(call) => begin_turn(kind, ok, parties, look.who, desk, call),
-        Act::Step(mark) => step_turn(kind, ok, parties, look, desk, items, mark),
-        Act::Alone(budget) => alone_turn(kind, ok, parties, look, desk, items, budget),
+        Act::Begin(call) => begin_turn(ok, parties, l, desk, call),
+        Act::Step(mark) => step_turn(ok, parties, l, desk, items, mark),
+        Act::Alone(budget) => alone_turn(ok, parties, l, desk, items, budget),
     }
 }

@@ -1,36 +1,37 @@
 // The end of a booking: LIFO stores the completed head, FIFO lets the stealer head catch up with the worker head.
 ghost use mathlib.Core.Path.{_≡_};
 ghost use Rattle.words.specs.Edition.{width};
+ghost use Rattle.tables.specs.Row as Y;
 ghost use Rattle.tables.specs.Table as T;
 ghost use Rattle.tables.specs.Tables as All;
-ghost use Rattle.queue.specs.View as Vw;
-use super::Access;
-use super::Answer;
-use super::ClosePlace;
-use super::Deed;
-use super::Ending;
-use super::Kind;
-use super::Next;
-use super::Place;
-use super::Seen;
-use super::Sight;
-use super::Wanted;
+use super::row;
+use tables::access::Access;
+use tables::access::Context;
+use tables::access::Next;
+use tables::access::Seen;
+use tables::access::Wanted;
+use tables::answer::Answer;
+use tables::answer::Change;
+use tables::place::ClosePlace;
+use tables::place::ClosingCall;
+use tables::place::Place;
+use tables::state::Kind;
 
 pub fn first(kind: Kind, head: u32) -> ClosePlace
-    ensures { λ r. ⌜ Vw.viewClosePlace r ≡ T.closing (Vw.viewKind kind) head ⌝ }
+    ensures { λ r. ⌜ r ≡ T.closing kind head ⌝ }
 {
     match kind {
-        Kind::Lifo => ClosePlace::StoreDone { head: head },
+        Kind::Lifo => ClosePlace::StoreCompleted { head: head },
         Kind::Fifo => ClosePlace::LoadHeads,
     }
 }
 
-fn answer_of(ending: Ending) -> Answer
-    ensures { λ r. ⌜ Vw.viewAnswer r ≡ T.answerOf (Vw.viewEnding ending) ⌝ }
+fn answer_of(call: ClosingCall) -> Answer
+    ensures { λ r. ⌜ r ≡ T.answerOf call ⌝ }
 {
-    match ending {
-        Ending::Stolen { source: _, count } => Answer::Stolen(count),
-        Ending::Taken {
+    match call {
+        ClosingCall::Steal { source: _, count } => Answer::Stolen(count),
+        ClosingCall::Take {
             source: _,
             token,
             count,
@@ -38,34 +39,39 @@ fn answer_of(ending: Ending) -> Answer
             token: token,
             count: count,
         },
-        Ending::Item(token) => Answer::Item(token),
-        Ending::Dropped => Answer::Closed,
+        ClosingCall::Next(token) => Answer::Item(token),
+        ClosingCall::Drop => Answer::Closed,
     }
 }
 
-fn was_closed(s: Sight, ending: Ending, seen: Seen) -> Next
-    ensures { λ r. ⌜ Vw.viewNext r ≡ All.wasClosed (Vw.viewSight s) (Vw.viewEnding ending) (Vw.viewSeen seen) ⌝ }
+fn was_closed(s: Context, call: ClosingCall, seen: Seen) -> Next
+    ensures { λ r. ⌜ r ≡ All.wasClosed s call seen ⌝ }
 {
-    if seen.ok {
-        super::ends(s, answer_of(ending), Deed::Closed)
+    if seen.stored {
+        row::ends(s, answer_of(call), Change::Closed)
     } else {
-        super::on(
+        row::on(
             s,
-            Place::Close(ending, ClosePlace::CasHeads { packed: seen.pair }),
-            Deed::Nothing,
+            Place::Close(
+                call,
+                ClosePlace::CasHeads {
+                    packed: seen.packed,
+                },
+            ),
+            Change::None,
         )
     }
 }
 
-pub fn wants(ending: Ending, place: ClosePlace, s: Sight) -> Wanted
-    ensures { λ r. ⌜ Vw.viewWanted r ≡ Vw.wantOf (All.closeRow width (Vw.viewSight s) (Vw.viewEnding ending) (Vw.viewClosePlace place)) ⌝ }
+pub fn wants(call: ClosingCall, place: ClosePlace, s: Context) -> Wanted
+    ensures { λ r. ⌜ r ≡ Y.wanted (All.closeRow width s call place) ⌝ }
 {
     match place {
-        ClosePlace::StoreDone { head } => super::theirs(Access::StoreDone(head)),
-        ClosePlace::LoadHeads => super::theirs(Access::LoadPacked),
+        ClosePlace::StoreCompleted { head } => row::source(Access::StoreCompleted(head)),
+        ClosePlace::LoadHeads => row::source(Access::LoadPacked),
         ClosePlace::CasHeads { packed } => {
             let old = words::unpack(packed);
-            super::theirs(Access::Cas {
+            row::source(Access::Cas {
                 old: packed,
                 new: words::pack(old.high, old.high),
             })
@@ -73,17 +79,22 @@ pub fn wants(ending: Ending, place: ClosePlace, s: Sight) -> Wanted
     }
 }
 
-pub fn advance(ending: Ending, place: ClosePlace, s: Sight, seen: Seen) -> Next
-    ensures { λ r. ⌜ Vw.viewNext r
-        ≡ All.closeRow width (Vw.viewSight s) (Vw.viewEnding ending) (Vw.viewClosePlace place) .after (Vw.viewSeen seen) ⌝ }
+pub fn advance(call: ClosingCall, place: ClosePlace, s: Context, seen: Seen) -> Next
+    ensures { λ r. ⌜ r
+        ≡ All.closeRow width s call place .after seen ⌝ }
 {
     match place {
-        ClosePlace::StoreDone { head: _ } => super::ends(s, answer_of(ending), Deed::Closed),
-        ClosePlace::LoadHeads => super::on(
+        ClosePlace::StoreCompleted { head: _ } => row::ends(s, answer_of(call), Change::Closed),
+        ClosePlace::LoadHeads => row::on(
             s,
-            Place::Close(ending, ClosePlace::CasHeads { packed: seen.pair }),
-            Deed::Nothing,
+            Place::Close(
+                call,
+                ClosePlace::CasHeads {
+                    packed: seen.packed,
+                },
+            ),
+            Change::None,
         ),
-        ClosePlace::CasHeads { packed: _ } => was_closed(s, ending, seen),
+        ClosePlace::CasHeads { packed: _ } => was_closed(s, call, seen),
     }
 }

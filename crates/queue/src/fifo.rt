@@ -2,21 +2,24 @@
 ghost use mathlib.Core.Path.{_≡_};
 ghost use Prim.Native.Nat.{_≤_};
 ghost use Rattle.words.specs.Edition.{width};
+ghost use Rattle.tables.specs.Row as Y;
 ghost use Rattle.tables.specs.Access as X;
 ghost use Rattle.tables.specs.FifoTable as T;
-ghost use Rattle.queue.specs.View as Vw;
-use super::Access;
-use super::Answer;
-use super::BookPlace;
-use super::Deed;
-use super::FifoPlace;
-use super::Goal;
-use super::Next;
-use super::OwnPlace;
-use super::Place;
-use super::Seen;
-use super::Sight;
-use super::Wanted;
+use super::counting;
+use super::own;
+use super::row;
+use tables::access::Access;
+use tables::access::Context;
+use tables::access::Next;
+use tables::access::Seen;
+use tables::access::Wanted;
+use tables::answer::Answer;
+use tables::answer::Change;
+use tables::place::BookPlace;
+use tables::place::BookingCall;
+use tables::place::FifoPlace;
+use tables::place::OwnPlace;
+use tables::place::Place;
 use words::Position;
 
 // The stealer head follows the worker head only where no booking is open.
@@ -32,168 +35,177 @@ fn popped_heads(packed: u64) -> u64
     }
 }
 
-pub fn wants(place: FifoPlace, s: Sight) -> Wanted
-    ensures { λ r. ⌜ Vw.viewWanted r ≡ Vw.wantOf (T.fifoRow width (Vw.viewSight s) (Vw.viewFifoPlace place)) ⌝ }
+pub fn wants(place: FifoPlace, s: Context) -> Wanted
+    ensures { λ r. ⌜ r ≡ Y.wanted (T.fifoRow width s place) ⌝ }
 {
     match place {
-        FifoPlace::LoadPacked(_) => super::mine(Access::LoadPacked),
-        FifoPlace::LoadTail { fill: _, packed: _ } => super::mine(Access::LoadCount),
-        FifoPlace::DestTail(_) => super::mine(Access::LoadCount),
-        FifoPlace::DestPacked { errand: _, tail: _ } => super::mine(Access::LoadPacked),
-        FifoPlace::PopPacked => super::mine(Access::LoadPacked),
-        FifoPlace::PopTail { packed: _ } => super::mine(Access::LoadCount),
-        FifoPlace::PopCas { packed } => super::mine(Access::Cas {
+        FifoPlace::LoadPacked(_) => row::own(Access::LoadPacked),
+        FifoPlace::LoadTail { call: _, packed: _ } => row::own(Access::LoadPushes),
+        FifoPlace::DestTail(_) => row::own(Access::LoadPushes),
+        FifoPlace::DestPacked {
+            transfer: _,
+            tail: _,
+        } => row::own(Access::LoadPacked),
+        FifoPlace::PopPacked => row::own(Access::LoadPacked),
+        FifoPlace::PopTail { packed: _ } => row::own(Access::LoadPushes),
+        FifoPlace::PopCas { packed } => row::own(Access::Cas {
             old: packed,
             new: popped_heads(packed),
         }),
-        FifoPlace::EmptyPacked => super::mine(Access::LoadPacked),
-        FifoPlace::EmptyTail { packed: _ } => super::mine(Access::LoadCount),
+        FifoPlace::EmptyPacked => row::own(Access::LoadPacked),
+        FifoPlace::EmptyTail { packed: _ } => row::own(Access::LoadPushes),
     }
 }
 
 // Check if the queue is empty.
-fn pop_test(s: Sight, packed: u64, tail: u32) -> Next
-    ensures { λ r. ⌜ Vw.viewNext r ≡ T.fifoPopTest width (Vw.viewSight s) packed tail ⌝ }
+fn pop_test(s: Context, packed: u64, tail: u32) -> Next
+    ensures { λ r. ⌜ r ≡ T.fifoPopTest width s packed tail ⌝ }
 {
     let old = words::unpack(packed);
     if tail == old.high {
-        super::ends(s, Answer::None, Deed::Nothing)
+        row::ends(s, Answer::None, Change::None)
     } else {
-        super::on(
+        row::on(
             s,
             Place::Fifo(FifoPlace::PopCas { packed: packed }),
-            Deed::Nothing,
+            Change::None,
         )
     }
 }
 
 // We lost the race to a stealer or the exchange failed spuriously: back to the tail load.
-fn popped(s: Sight, packed: u64, seen: Seen) -> Next
-    ensures { λ r. ⌜ Vw.viewNext r ≡ T.fifoPopped width (Vw.viewSight s) packed (Vw.viewSeen seen) ⌝ }
+fn popped(s: Context, packed: u64, seen: Seen) -> Next
+    ensures { λ r. ⌜ r ≡ T.fifoPopped width s packed seen ⌝ }
 {
-    if seen.ok {
+    if seen.stored {
         let old = words::unpack(packed);
         let at = Position(old.high);
-        super::on(s, Place::Own(OwnPlace::PopRead { at: at }), Deed::Popped)
+        row::on(s, Place::Own(OwnPlace::PopRead { at: at }), Change::Popped)
     } else {
-        super::on(
+        row::on(
             s,
-            Place::Fifo(FifoPlace::PopTail { packed: seen.pair }),
-            Deed::Nothing,
+            Place::Fifo(FifoPlace::PopTail {
+                packed: seen.packed,
+            }),
+            Change::None,
         )
     }
 }
 
-fn is_empty(s: Sight, packed: u64, tail: u32) -> Next
-    ensures { λ r. ⌜ Vw.viewNext r ≡ T.fifoEmpty width (Vw.viewSight s) packed tail ⌝ }
+fn is_empty(s: Context, packed: u64, tail: u32) -> Next
+    ensures { λ r. ⌜ r ≡ T.fifoEmpty width s packed tail ⌝ }
 {
     let old = words::unpack(packed);
     if tail == old.high {
-        super::ends(s, Answer::Yes, Deed::Nothing)
+        row::ends(s, Answer::Yes, Change::None)
     } else {
-        super::ends(s, Answer::No, Deed::Nothing)
+        row::ends(s, Answer::No, Change::None)
     }
 }
 
-pub fn advance(place: FifoPlace, s: Sight, seen: Seen) -> Next
+pub fn advance(place: FifoPlace, s: Context, seen: Seen) -> Next
     requires { ⌜ 1 ≤ s .capacity ⌝ }
-    ensures { λ r. ⌜ Vw.viewNext r ≡ T.fifoRow width (Vw.viewSight s) (Vw.viewFifoPlace place) .after (Vw.viewSeen seen) ⌝ }
+    ensures { λ r. ⌜ r ≡ T.fifoRow width s place .after seen ⌝ }
 {
     match place {
-        FifoPlace::LoadPacked(fill) => {
-            super::on(
+        FifoPlace::LoadPacked(call) => {
+            row::on(
                 s,
                 Place::Fifo(FifoPlace::LoadTail {
-                    fill: fill,
-                    packed: seen.pair,
+                    call: call,
+                    packed: seen.packed,
                 }),
-                Deed::Nothing,
+                Change::None,
             )
         }
-        FifoPlace::LoadTail { fill, packed } => {
+        FifoPlace::LoadTail { call, packed } => {
             let old = words::unpack(packed);
-            super::own::filled(s, fill, seen.word, 0, seen.word, old.low)
+            own::filled(s, call, seen.word, 0, seen.word, old.low)
         }
-        FifoPlace::DestTail(errand) => {
-            super::on(
+        FifoPlace::DestTail(transfer) => {
+            row::on(
                 s,
                 Place::Fifo(FifoPlace::DestPacked {
-                    errand: errand,
+                    transfer: transfer,
                     tail: seen.word,
                 }),
-                Deed::Nothing,
+                Change::None,
             )
         }
-        FifoPlace::DestPacked { errand, tail } => {
-            let old = words::unpack(seen.pair);
-            super::own::brought(s, errand, tail, tail, old.low)
+        FifoPlace::DestPacked { transfer, tail } => {
+            let old = words::unpack(seen.packed);
+            own::brought(s, transfer, tail, tail, old.low)
         }
-        FifoPlace::PopPacked => super::on(
+        FifoPlace::PopPacked => row::on(
             s,
-            Place::Fifo(FifoPlace::PopTail { packed: seen.pair }),
-            Deed::Nothing,
+            Place::Fifo(FifoPlace::PopTail {
+                packed: seen.packed,
+            }),
+            Change::None,
         ),
         FifoPlace::PopTail { packed } => pop_test(s, packed, seen.word),
         FifoPlace::PopCas { packed } => popped(s, packed, seen),
-        FifoPlace::EmptyPacked => super::on(
+        FifoPlace::EmptyPacked => row::on(
             s,
-            Place::Fifo(FifoPlace::EmptyTail { packed: seen.pair }),
-            Deed::Nothing,
+            Place::Fifo(FifoPlace::EmptyTail {
+                packed: seen.packed,
+            }),
+            Change::None,
         ),
         FifoPlace::EmptyTail { packed } => is_empty(s, packed, seen.word),
     }
 }
 
 // Bail out if both heads differ because it means another stealing operation is ongoing.
-pub fn heads_test(s: Sight, goal: Goal, packed: u64) -> Next
-    ensures { λ r. ⌜ Vw.viewNext r ≡ T.headsTest width (Vw.viewSight s) (Vw.viewGoal goal) packed ⌝ }
+pub fn heads_test(s: Context, call: BookingCall, packed: u64) -> Next
+    ensures { λ r. ⌜ r ≡ T.headsTest width s call packed ⌝ }
 {
     let old = words::unpack(packed);
     if old.high == old.low {
-        super::on(
+        row::on(
             s,
-            Place::Book(goal, BookPlace::FifoTail { packed: packed }),
-            Deed::Nothing,
+            Place::Book(call, BookPlace::FifoTail { packed: packed }),
+            Change::None,
         )
     } else {
-        super::ends(s, Answer::Busy, Deed::Nothing)
+        row::ends(s, Answer::Busy, Change::None)
     }
 }
 
 // The tail load: how many are there, and how many of them to book.
-pub fn counted(s: Sight, goal: Goal, packed: u64, tail: u32) -> Next
-    ensures { λ r. ⌜ Vw.viewNext r ≡ T.fifoTailRow width (Vw.viewSight s) (Vw.viewGoal goal) packed .after (X.sawWord tail) ⌝ }
+pub fn counted(s: Context, call: BookingCall, packed: u64, tail: u32) -> Next
+    ensures { λ r. ⌜ r ≡ T.fifoTailRow width s call packed .after (X.sawWord tail) ⌝ }
 {
     let old = words::unpack(packed);
     let n = words::sub(tail, old.high);
     if n == 0 {
-        return super::ends(s, Answer::Empty, Deed::Nothing);
+        return row::ends(s, Answer::Empty, Change::None);
     }
     let mark = s.mark;
-    let k = super::book::count_of(mark, goal, n);
+    let k = counting::count_of(mark, call, n);
     if k == 0 {
-        return super::ends(s, Answer::Empty, Deed::Nothing);
+        return row::ends(s, Answer::Empty, Change::None);
     }
-    super::on(
+    row::on(
         s,
         Place::Book(
-            goal,
+            call,
             BookPlace::FifoCas {
                 packed: packed,
                 count: k,
             },
         ),
-        Deed::Nothing,
+        Change::None,
     )
 }
 
-pub fn booked(s: Sight, goal: Goal, packed: u64, count: u32, seen: Seen) -> Next
-    ensures { λ r. ⌜ Vw.viewNext r ≡ T.fifoBooked width (Vw.viewSight s) (Vw.viewGoal goal) packed count (Vw.viewSeen seen) ⌝ }
+pub fn booked(s: Context, call: BookingCall, packed: u64, count: u32, seen: Seen) -> Next
+    ensures { λ r. ⌜ r ≡ T.fifoBooked width s call packed count seen ⌝ }
 {
-    if seen.ok {
+    if seen.stored {
         let old = words::unpack(packed);
-        super::book::booked(s, goal, old.high, count)
+        counting::booked(s, call, old.high, count)
     } else {
-        heads_test(s, goal, seen.pair)
+        heads_test(s, call, seen.packed)
     }
 }

@@ -2,213 +2,229 @@
 ghost use mathlib.Core.Path.{_≡_};
 ghost use Prim.Native.Nat.{_≤_};
 ghost use Rattle.words.specs.Edition.{width};
+ghost use Rattle.tables.specs.Row as Y;
 ghost use Rattle.tables.specs.Access as X;
 ghost use Rattle.tables.specs.LifoTable as T;
-ghost use Rattle.queue.specs.View as Vw;
-use super::Access;
-use super::Answer;
-use super::BookPlace;
-use super::Deed;
-use super::Goal;
-use super::Job;
-use super::LifoPlace;
-use super::Next;
-use super::OwnPlace;
-use super::Place;
-use super::Seen;
-use super::Sight;
-use super::Wanted;
+use super::counting;
+use super::own;
+use super::row;
+use tables::access::Access;
+use tables::access::Context;
+use tables::access::Next;
+use tables::access::Seen;
+use tables::access::Wanted;
+use tables::answer::Answer;
+use tables::answer::Change;
+use tables::place::BookPlace;
+use tables::place::BookingCall;
+use tables::place::LifoPlace;
+use tables::place::OwnPlace;
+use tables::place::Place;
+use tables::place::RoomCall;
 use words::Position;
 
-pub fn wants(place: LifoPlace, s: Sight) -> Wanted
-    ensures { λ r. ⌜ Vw.viewWanted r ≡ Vw.wantOf (T.lifoRow width (Vw.viewSight s) (Vw.viewLifoPlace place)) ⌝ }
+pub fn wants(place: LifoPlace, s: Context) -> Wanted
+    ensures { λ r. ⌜ r ≡ Y.wanted (T.lifoRow width s place) ⌝ }
 {
     match place {
-        LifoPlace::LoadCount(_) => super::mine(Access::LoadCount),
-        LifoPlace::LoadPacked { job: _, count: _ } => super::mine(Access::LoadPacked),
-        LifoPlace::LoadDone {
-            job: _,
-            count: _,
+        LifoPlace::LoadPushes(_) => row::own(Access::LoadPushes),
+        LifoPlace::LoadPacked { call: _, pushes: _ } => row::own(Access::LoadPacked),
+        LifoPlace::LoadCompleted {
+            call: _,
+            pushes: _,
             packed: _,
-        } => super::mine(Access::LoadDone),
-        LifoPlace::PopPacked => super::mine(Access::LoadPacked),
-        LifoPlace::PopCount { packed: _ } => super::mine(Access::LoadCount),
+        } => row::own(Access::LoadCompleted),
+        LifoPlace::PopPacked => row::own(Access::LoadPacked),
+        LifoPlace::PopPushes { packed: _ } => row::own(Access::LoadPushes),
         LifoPlace::PopCas { packed, tail: _ } => {
             let old = words::unpack(packed);
-            super::mine(Access::Cas {
+            row::own(Access::Cas {
                 old: packed,
                 new: words::pack(words::add(old.high, 1), old.low),
             })
         }
-        LifoPlace::EmptyCount => super::mine(Access::LoadCount),
-        LifoPlace::EmptyPacked { count: _ } => super::mine(Access::LoadPacked),
+        LifoPlace::EmptyPushes => row::own(Access::LoadPushes),
+        LifoPlace::EmptyPacked { pushes: _ } => row::own(Access::LoadPacked),
     }
 }
 
 // The words are loaded: tail = push count - pop count.
-fn loaded(s: Sight, job: Job, count: u32, packed: u64, head: u32) -> Next
+fn loaded(s: Context, call: RoomCall, pushes: u32, packed: u64, head: u32) -> Next
     requires { ⌜ 1 ≤ s .capacity ⌝ }
-    ensures { λ r. ⌜ Vw.viewNext r ≡ T.lifoLoaded width (Vw.viewSight s) (Vw.viewJob job) count packed head ⌝ }
+    ensures { λ r. ⌜ r ≡ T.lifoLoaded width s call pushes packed head ⌝ }
 {
     let old = words::unpack(packed);
-    let tail = words::sub(count, old.high);
-    match job {
-        Job::Fills(fill) => super::own::filled(s, fill, count, old.high, tail, head),
-        Job::Brings(errand) => super::own::brought(s, errand, count, tail, head),
+    let tail = words::sub(pushes, old.high);
+    match call {
+        RoomCall::Owner(owner) => own::filled(s, owner, pushes, old.high, tail, head),
+        RoomCall::Transfer(transfer) => own::brought(s, transfer, pushes, tail, head),
     }
 }
 
 // Check if the queue is empty.
-fn pop_test(s: Sight, packed: u64, tail: u32) -> Next
-    ensures { λ r. ⌜ Vw.viewNext r ≡ T.popTest width (Vw.viewSight s) packed tail ⌝ }
+fn pop_test(s: Context, packed: u64, tail: u32) -> Next
+    ensures { λ r. ⌜ r ≡ T.popTest width s packed tail ⌝ }
 {
     let old = words::unpack(packed);
     if tail == old.low {
-        super::ends(s, Answer::None, Deed::Nothing)
+        row::ends(s, Answer::None, Change::None)
     } else {
-        super::on(
+        row::on(
             s,
             Place::Lifo(LifoPlace::PopCas {
                 packed: packed,
                 tail: tail,
             }),
-            Deed::Nothing,
+            Change::None,
         )
     }
 }
 
 // After a failed exchange the head is the new one, and the tail is kept.
-fn popped(s: Sight, tail: u32, seen: Seen) -> Next
-    ensures { λ r. ⌜ Vw.viewNext r ≡ T.lifoPopped width (Vw.viewSight s) tail (Vw.viewSeen seen) ⌝ }
+fn popped(s: Context, tail: u32, seen: Seen) -> Next
+    ensures { λ r. ⌜ r ≡ T.lifoPopped width s tail seen ⌝ }
 {
-    if seen.ok {
+    if seen.stored {
         let at = Position(words::sub(tail, 1));
-        super::on(s, Place::Own(OwnPlace::PopRead { at: at }), Deed::Popped)
+        row::on(s, Place::Own(OwnPlace::PopRead { at: at }), Change::Popped)
     } else {
-        pop_test(s, seen.pair, tail)
+        pop_test(s, seen.packed, tail)
     }
 }
 
-fn is_empty(s: Sight, count: u32, packed: u64) -> Next
-    ensures { λ r. ⌜ Vw.viewNext r ≡ T.lifoEmpty width (Vw.viewSight s) count packed ⌝ }
+fn is_empty(s: Context, pushes: u32, packed: u64) -> Next
+    ensures { λ r. ⌜ r ≡ T.lifoEmpty width s pushes packed ⌝ }
 {
     let old = words::unpack(packed);
-    let tail = words::sub(count, old.high);
+    let tail = words::sub(pushes, old.high);
     if tail == old.low {
-        super::ends(s, Answer::Yes, Deed::Nothing)
+        row::ends(s, Answer::Yes, Change::None)
     } else {
-        super::ends(s, Answer::No, Deed::Nothing)
+        row::ends(s, Answer::No, Change::None)
     }
 }
 
-fn counted_pop(s: Sight, packed: u64, count: u32) -> Next
-    ensures { λ r. ⌜ Vw.viewNext r ≡ T.popTest width (Vw.viewSight s) packed (T.tailOf width count packed) ⌝ }
+fn counted_pop(s: Context, packed: u64, pushes: u32) -> Next
+    ensures { λ r. ⌜ r ≡ T.popTest width s packed (T.tailOf width pushes packed) ⌝ }
 {
     let old = words::unpack(packed);
-    pop_test(s, packed, words::sub(count, old.high))
+    pop_test(s, packed, words::sub(pushes, old.high))
 }
 
-pub fn advance(place: LifoPlace, s: Sight, seen: Seen) -> Next
+pub fn advance(place: LifoPlace, s: Context, seen: Seen) -> Next
     requires { ⌜ 1 ≤ s .capacity ⌝ }
-    ensures { λ r. ⌜ Vw.viewNext r ≡ T.lifoRow width (Vw.viewSight s) (Vw.viewLifoPlace place) .after (Vw.viewSeen seen) ⌝ }
+    ensures { λ r. ⌜ r ≡ T.lifoRow width s place .after seen ⌝ }
 {
     match place {
-        LifoPlace::LoadCount(job) => {
-            super::on(
+        LifoPlace::LoadPushes(call) => {
+            row::on(
                 s,
                 Place::Lifo(LifoPlace::LoadPacked {
-                    job: job,
-                    count: seen.word,
+                    call: call,
+                    pushes: seen.word,
                 }),
-                Deed::Nothing,
+                Change::None,
             )
         }
-        LifoPlace::LoadPacked { job, count } => {
-            super::on(
+        LifoPlace::LoadPacked { call, pushes } => {
+            row::on(
                 s,
-                Place::Lifo(LifoPlace::LoadDone {
-                    job: job,
-                    count: count,
-                    packed: seen.pair,
+                Place::Lifo(LifoPlace::LoadCompleted {
+                    call: call,
+                    pushes: pushes,
+                    packed: seen.packed,
                 }),
-                Deed::Nothing,
+                Change::None,
             )
         }
-        LifoPlace::LoadDone { job, count, packed } => loaded(s, job, count, packed, seen.word),
-        LifoPlace::PopPacked => super::on(
+        LifoPlace::LoadCompleted {
+            call,
+            pushes,
+            packed,
+        } => loaded(s, call, pushes, packed, seen.word),
+        LifoPlace::PopPacked => row::on(
             s,
-            Place::Lifo(LifoPlace::PopCount { packed: seen.pair }),
-            Deed::Nothing,
+            Place::Lifo(LifoPlace::PopPushes {
+                packed: seen.packed,
+            }),
+            Change::None,
         ),
-        LifoPlace::PopCount { packed } => counted_pop(s, packed, seen.word),
+        LifoPlace::PopPushes { packed } => counted_pop(s, packed, seen.word),
         LifoPlace::PopCas { packed: _, tail } => popped(s, tail, seen),
-        LifoPlace::EmptyCount => super::on(
+        LifoPlace::EmptyPushes => row::on(
             s,
-            Place::Lifo(LifoPlace::EmptyPacked { count: seen.word }),
-            Deed::Nothing,
+            Place::Lifo(LifoPlace::EmptyPacked { pushes: seen.word }),
+            Change::None,
         ),
-        LifoPlace::EmptyPacked { count } => is_empty(s, count, seen.pair),
+        LifoPlace::EmptyPacked { pushes } => is_empty(s, pushes, seen.packed),
     }
 }
 
 // Bail out if both heads differ because it means another stealing operation is ongoing.
-pub fn done_test(s: Sight, goal: Goal, packed: u64, done: u32) -> Next
-    ensures { λ r. ⌜ Vw.viewNext r ≡ T.doneTest width (Vw.viewSight s) (Vw.viewGoal goal) packed done ⌝ }
+pub fn completed_test(s: Context, call: BookingCall, packed: u64, completed: u32) -> Next
+    ensures { λ r. ⌜ r ≡ T.completedTest width s call packed completed ⌝ }
 {
     let old = words::unpack(packed);
-    if done == old.low {
-        super::on(
+    if completed == old.low {
+        row::on(
             s,
             Place::Book(
-                goal,
-                BookPlace::LifoCount {
+                call,
+                BookPlace::LifoPushes {
                     packed: packed,
-                    done: done,
+                    completed: completed,
                 },
             ),
-            Deed::Nothing,
+            Change::None,
         )
     } else {
-        super::ends(s, Answer::Busy, Deed::Nothing)
+        row::ends(s, Answer::Busy, Change::None)
     }
 }
 
-// The count load: how many are there, and how many of them to book.
-pub fn counted(s: Sight, goal: Goal, packed: u64, done: u32, count: u32) -> Next
-    ensures { λ r. ⌜ Vw.viewNext r ≡ T.lifoCountRow width (Vw.viewSight s) (Vw.viewGoal goal) packed done .after (X.sawWord count) ⌝ }
+// The push count is loaded: how many are there, and how many of them to book.
+pub fn counted(s: Context, call: BookingCall, packed: u64, completed: u32, pushes: u32) -> Next
+    ensures { λ r. ⌜ r ≡ T.lifoPushesRow width s call packed completed .after (X.sawWord pushes) ⌝ }
 {
     let old = words::unpack(packed);
-    let n = words::sub(words::sub(count, old.high), old.low);
+    let n = words::sub(words::sub(pushes, old.high), old.low);
     if n == 0 {
-        return super::ends(s, Answer::Empty, Deed::Nothing);
+        return row::ends(s, Answer::Empty, Change::None);
     }
     let mark = s.mark;
-    let k = super::book::count_of(mark, goal, n);
+    let k = counting::count_of(mark, call, n);
     if k == 0 {
-        return super::ends(s, Answer::Empty, Deed::Nothing);
+        return row::ends(s, Answer::Empty, Change::None);
     }
-    super::on(
+    row::on(
         s,
         Place::Book(
-            goal,
+            call,
             BookPlace::LifoCas {
                 packed: packed,
-                done: done,
+                completed: completed,
                 count: k,
             },
         ),
-        Deed::Nothing,
+        Change::None,
     )
 }
 
 // The remembered completed head is compared with the new booked head, not loaded again.
-pub fn booked(s: Sight, goal: Goal, packed: u64, done: u32, count: u32, seen: Seen) -> Next
-    ensures { λ r. ⌜ Vw.viewNext r ≡ T.lifoBooked width (Vw.viewSight s) (Vw.viewGoal goal) packed done count (Vw.viewSeen seen) ⌝ }
+pub fn booked(
+    s: Context,
+    call: BookingCall,
+    packed: u64,
+    completed: u32,
+    count: u32,
+    seen: Seen,
+) -> Next
+    ensures { λ r. ⌜ r ≡ T.lifoBooked width s call packed completed count seen ⌝ }
 {
-    if seen.ok {
+    if seen.stored {
         let old = words::unpack(packed);
-        super::book::booked(s, goal, old.low, count)
+        counting::booked(s, call, old.low, count)
     } else {
-        done_test(s, goal, seen.pair, done)
+        completed_test(s, call, seen.packed, completed)
     }
 }

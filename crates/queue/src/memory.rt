@@ -5,14 +5,17 @@ ghost use mathlib.Core.List.{List};
 ghost use Prim.Native.Nat.{ℕ};
 ghost use lib.ListN.{length, getD, set};
 ghost use Rattle.words.specs.Word.{Pow, slotOf};
-ghost use Rattle.tables.specs.Rule.{Kind};
 ghost use Rattle.tables.specs.Access as X;
-ghost use Rattle.queue.specs.View as Vw;
-use super::Access;
-use super::Performed;
-use super::Queue;
-use super::Seen;
+use tables::access::Access;
+use tables::access::Seen;
+use tables::state::Queue;
 use words::Position;
+
+// What an access leaves of the words, and shows. The slots are lent: what it leaves of them stands there.
+pub struct Performed {
+    pub queue: Queue,
+    pub seen: Seen,
+}
 
 fn read_at(items: &[u64], at: Position, capacity: u32) -> u64
     requires { ⌜ Pow capacity ⌝ }
@@ -34,32 +37,34 @@ fn write_at(items: &mut [u64], at: Position, capacity: u32, token: u64)
     items[i] = token;
 }
 
-fn saw(queue: Queue, word: u32, pair: u64, token: u64, ok: bool) -> Performed
-    ensures { λ r. ⌜ r ≡ record { queue = queue; seen = record { word = word; pair = pair; token = token; ok = ok } } ⌝ }
+fn saw(queue: Queue, word: u32, packed: u64, token: u64, stored: bool) -> Performed
+    ensures { λ r. ⌜ r ≡ record { queue = queue; seen = record { word = word; packed = packed; token = token; stored = stored } } ⌝ }
 {
     Performed {
         queue: queue,
         seen: Seen {
             word: word,
-            pair: pair,
+            packed: packed,
             token: token,
-            ok: ok,
+            stored: stored,
         },
     }
 }
 
 // A weak exchange may fail anyway; a failure hands back the word as it is.
 fn compare_exchange(queue: Queue, old: u64, new: u64, weak: bool) -> Performed
-    ensures { λ r. ⌜ ((k : Kind) (xs : List ℕ) → Vw.viewAccessed k r xs ≡ X.perform (Vw.viewQueue k queue) xs (X.cas old new) weak) ⌝ }
+    ensures { λ r. ⌜ ((xs : List ℕ) → X.shows (r .queue) xs (r .seen) ≡ X.perform queue xs (Access.Cas old new) weak) ⌝ }
 {
+    let kind = queue.kind;
     if weak {
         saw(queue, 0, queue.packed, 0, false)
     } else if queue.packed == old {
         let q = Queue {
+            kind: kind,
             capacity: queue.capacity,
-            count: queue.count,
+            pushes: queue.pushes,
             packed: new,
-            done: queue.done,
+            completed: queue.completed,
         };
         saw(q, 0, queue.packed, 0, true)
     } else {
@@ -71,29 +76,32 @@ fn compare_exchange(queue: Queue, old: u64, new: u64, weak: bool) -> Performed
 pub fn perform(queue: Queue, items: &mut [u64], access: Access, weak: bool) -> Performed
     requires { ⌜ Pow (queue .capacity) ⌝ }
     requires { ⌜ length (now items) ≡ queue .capacity ⌝ }
-    ensures { λ r. ⌜ ((k : Kind) → Vw.viewAccessed k r (now (items .exit))
-        ≡ X.perform (Vw.viewQueue k queue) (now (items .entry)) (Vw.viewAccess access) weak) ⌝ }
+    ensures { λ r. ⌜ X.shows (r .queue) (now (items .exit)) (r .seen)
+        ≡ X.perform queue (now (items .entry)) access weak ⌝ }
 {
+    let kind = queue.kind;
     match access {
         Access::Touch => saw(queue, 0, 0, 0, true),
-        Access::LoadCount => saw(queue, queue.count, 0, 0, true),
+        Access::LoadPushes => saw(queue, queue.pushes, 0, 0, true),
         Access::LoadPacked => saw(queue, 0, queue.packed, 0, true),
-        Access::LoadDone => saw(queue, queue.done, 0, 0, true),
-        Access::StoreCount(word) => {
+        Access::LoadCompleted => saw(queue, queue.completed, 0, 0, true),
+        Access::StorePushes(word) => {
             let q = Queue {
+                kind: kind,
                 capacity: queue.capacity,
-                count: word,
+                pushes: word,
                 packed: queue.packed,
-                done: queue.done,
+                completed: queue.completed,
             };
             saw(q, 0, 0, 0, true)
         }
-        Access::StoreDone(word) => {
+        Access::StoreCompleted(word) => {
             let q = Queue {
+                kind: kind,
                 capacity: queue.capacity,
-                count: queue.count,
+                pushes: queue.pushes,
                 packed: queue.packed,
-                done: word,
+                completed: word,
             };
             saw(q, 0, 0, 0, true)
         }

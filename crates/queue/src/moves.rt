@@ -1,158 +1,161 @@
 // Booked tokens on their way: read a source slot, write a destination slot; then they land.
 ghost use mathlib.Core.Path.{_≡_};
 ghost use Rattle.words.specs.Edition.{width};
-ghost use Rattle.tables.specs.Place as P;
+ghost use Rattle.tables.specs.Row as Y;
 ghost use Rattle.tables.specs.Access as X;
 ghost use Rattle.tables.specs.Table as T;
-ghost use Rattle.queue.specs.View as Vw;
-use super::Access;
-use super::Deed;
-use super::Ending;
-use super::Haul;
-use super::MovePlace;
-use super::Next;
-use super::Place;
-use super::Seen;
-use super::Sight;
-use super::Trip;
-use super::Wanted;
+use super::closing;
+use super::row;
+use tables::access::Access;
+use tables::access::Context;
+use tables::access::Next;
+use tables::access::Seen;
+use tables::access::Wanted;
+use tables::answer::Change;
+use tables::place::BookedTokens;
+use tables::place::ClosingCall;
+use tables::place::MovePlace;
+use tables::place::Place;
+use tables::place::Transfer;
 use words::Position;
 
 // A take does not write its last token: it keeps it in hand.
-fn last_read(trip: Trip, moved: u32) -> bool
-    ensures { λ r. ⌜ r ≡ T.lastRead width (Vw.viewHaul (trip .haul)) (Vw.viewTrip trip) moved ⌝ }
+fn last_read(booked: BookedTokens, moved: u32) -> bool
+    ensures { λ r. ⌜ r ≡ T.lastRead width (booked .transfer) booked moved ⌝ }
 {
-    let haul = trip.haul;
-    match haul {
-        Haul::Steals => false,
-        Haul::Takes => words::add(moved, 1) == trip.count,
+    let which = booked.transfer;
+    match which {
+        Transfer::Steal => false,
+        Transfer::Take => words::add(moved, 1) == booked.count,
     }
 }
 
-fn last_written(trip: Trip, moved: u32) -> bool
-    ensures { λ r. ⌜ r ≡ T.lastWritten width (Vw.viewHaul (trip .haul)) (Vw.viewTrip trip) moved ⌝ }
+fn last_written(booked: BookedTokens, moved: u32) -> bool
+    ensures { λ r. ⌜ r ≡ T.lastWritten width (booked .transfer) booked moved ⌝ }
 {
-    let haul = trip.haul;
-    match haul {
-        Haul::Steals => words::add(moved, 1) == trip.count,
-        Haul::Takes => false,
+    let which = booked.transfer;
+    match which {
+        Transfer::Steal => words::add(moved, 1) == booked.count,
+        Transfer::Take => false,
     }
 }
 
-fn landing(trip: Trip) -> u32
-    ensures { λ r. ⌜ r ≡ T.landing width (Vw.viewHaul (trip .haul)) (Vw.viewTrip trip) ⌝ }
+fn landing(booked: BookedTokens) -> u32
+    ensures { λ r. ⌜ r ≡ T.landing width (booked .transfer) booked ⌝ }
 {
-    let haul = trip.haul;
-    match haul {
-        Haul::Steals => trip.count,
-        Haul::Takes => words::sub(trip.count, 1),
+    let which = booked.transfer;
+    match which {
+        Transfer::Steal => booked.count,
+        Transfer::Take => words::sub(booked.count, 1),
     }
 }
 
-fn was_read(s: Sight, trip: Trip, moved: u32, token: u64) -> Next
-    ensures { λ r. ⌜ Vw.viewNext r ≡ T.wasRead width (Vw.viewSight s) (Vw.viewTrip trip) moved token ⌝ }
+fn was_read(s: Context, booked: BookedTokens, moved: u32, token: u64) -> Next
+    ensures { λ r. ⌜ r ≡ T.wasRead width s booked moved token ⌝ }
 {
-    if last_read(trip, moved) {
-        super::on(
+    if last_read(booked, moved) {
+        row::on(
             s,
             Place::Move(MovePlace::Land {
-                trip: trip,
+                booked: booked,
                 last: token,
             }),
-            Deed::Nothing,
+            Change::None,
         )
     } else {
-        super::on(
+        row::on(
             s,
             Place::Move(MovePlace::WriteSlot {
-                trip: trip,
+                booked: booked,
                 moved: moved,
                 token: token,
             }),
-            Deed::Nothing,
+            Change::None,
         )
     }
 }
 
-fn was_written(s: Sight, trip: Trip, moved: u32) -> Next
-    ensures { λ r. ⌜ Vw.viewNext r ≡ T.wasWritten width (Vw.viewSight s) (Vw.viewTrip trip) moved ⌝ }
+fn was_written(s: Context, booked: BookedTokens, moved: u32) -> Next
+    ensures { λ r. ⌜ r ≡ T.wasWritten width s booked moved ⌝ }
 {
-    if last_written(trip, moved) {
-        super::on(
+    if last_written(booked, moved) {
+        row::on(
             s,
             Place::Move(MovePlace::Land {
-                trip: trip,
+                booked: booked,
                 last: 0,
             }),
-            Deed::Nothing,
+            Change::None,
         )
     } else {
         let next = words::add(moved, 1);
-        super::on(
+        row::on(
             s,
             Place::Move(MovePlace::ReadSlot {
-                trip: trip,
+                booked: booked,
                 moved: next,
             }),
-            Deed::Nothing,
+            Change::None,
         )
     }
 }
 
-fn landed(s: Sight, trip: Trip, last: u64) -> Next
-    ensures { λ r. ⌜ Vw.viewNext r ≡ T.moveRow width (Vw.viewSight s) (P.land (Vw.viewTrip trip) last) .after X.nothingSeen ⌝ }
+fn landed(s: Context, booked: BookedTokens, last: u64) -> Next
+    ensures { λ r. ⌜ r ≡ T.moveRow width s (MovePlace.Land booked last) .after X.nothingSeen ⌝ }
 {
     let from = s.from;
-    let close = super::closing::first(from, words::add(trip.from, trip.count));
-    let haul = trip.haul;
-    match haul {
-        Haul::Steals => {
-            let ending = Ending::Stolen {
-                source: trip.source,
-                count: trip.count,
+    let close = closing::first(from, words::add(booked.from, booked.count));
+    let which = booked.transfer;
+    match which {
+        Transfer::Steal => {
+            let call = ClosingCall::Steal {
+                source: booked.source,
+                count: booked.count,
             };
-            super::on(s, Place::Close(ending, close), Deed::Landed(trip.count))
+            row::on(s, Place::Close(call, close), Change::Landed(booked.count))
         }
-        Haul::Takes => {
-            let moved = words::sub(trip.count, 1);
-            let ending = Ending::Taken {
-                source: trip.source,
+        Transfer::Take => {
+            let moved = words::sub(booked.count, 1);
+            let call = ClosingCall::Take {
+                source: booked.source,
                 token: last,
                 count: moved,
             };
-            super::on(s, Place::Close(ending, close), Deed::LandedLast(moved))
+            row::on(s, Place::Close(call, close), Change::TakeLanded(moved))
         }
     }
 }
 
-pub fn wants(place: MovePlace, s: Sight) -> Wanted
-    ensures { λ r. ⌜ Vw.viewWanted r ≡ Vw.wantOf (T.moveRow width (Vw.viewSight s) (Vw.viewMovePlace place)) ⌝ }
+pub fn wants(place: MovePlace, s: Context) -> Wanted
+    ensures { λ r. ⌜ r ≡ Y.wanted (T.moveRow width s place) ⌝ }
 {
     match place {
-        MovePlace::ReadSlot { trip, moved } => super::theirs(Access::Read(Position(words::add(
-            trip.from,
+        MovePlace::ReadSlot { booked, moved } => row::source(Access::Read(Position(words::add(
+            booked.from,
             moved,
         )))),
-        MovePlace::WriteSlot { trip, moved, token } => {
-            super::mine(Access::Write(Position(words::add(trip.tail, moved)), token))
-        }
-        MovePlace::Land { trip, last: _ } => super::mine(Access::StoreCount(words::add(
-            trip.word,
-            landing(trip),
+        MovePlace::WriteSlot {
+            booked,
+            moved,
+            token,
+        } => { row::own(Access::Write(Position(words::add(booked.tail, moved)), token)) }
+        MovePlace::Land { booked, last: _ } => row::own(Access::StorePushes(words::add(
+            booked.word,
+            landing(booked),
         ))),
     }
 }
 
-pub fn advance(place: MovePlace, s: Sight, seen: Seen) -> Next
-    ensures { λ r. ⌜ Vw.viewNext r ≡ T.moveRow width (Vw.viewSight s) (Vw.viewMovePlace place) .after (Vw.viewSeen seen) ⌝ }
+pub fn advance(place: MovePlace, s: Context, seen: Seen) -> Next
+    ensures { λ r. ⌜ r ≡ T.moveRow width s place .after seen ⌝ }
 {
     match place {
-        MovePlace::ReadSlot { trip, moved } => was_read(s, trip, moved, seen.token),
+        MovePlace::ReadSlot { booked, moved } => was_read(s, booked, moved, seen.token),
         MovePlace::WriteSlot {
-            trip,
+            booked,
             moved,
             token: _,
-        } => was_written(s, trip, moved),
-        MovePlace::Land { trip, last } => landed(s, trip, last),
+        } => was_written(s, booked, moved),
+        MovePlace::Land { booked, last } => landed(s, booked, last),
     }
 }

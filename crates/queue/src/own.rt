@@ -2,33 +2,33 @@
 ghost use mathlib.Core.Path.{_≡_};
 ghost use Prim.Native.Nat.{_≤_};
 ghost use Rattle.words.specs.Edition.{width};
-ghost use Rattle.tables.specs.Errand as G;
-ghost use Rattle.tables.specs.Place as P;
+ghost use Rattle.tables.specs.Row as Y;
 ghost use Rattle.tables.specs.Table as T;
-ghost use Rattle.queue.specs.View as Vw;
-use super::Access;
-use super::Answer;
-use super::BookPlace;
-use super::Deed;
-use super::Dest;
-use super::Drain;
-use super::Ending;
-use super::Errand;
-use super::Fill;
-use super::Goal;
-use super::Kind;
-use super::Mark;
-use super::Next;
-use super::OwnPlace;
-use super::Place;
-use super::Seen;
-use super::Sight;
-use super::Wanted;
+use super::closing;
+use super::row;
+use tables::access::Access;
+use tables::access::Context;
+use tables::access::Next;
+use tables::access::Seen;
+use tables::access::Wanted;
+use tables::answer::Answer;
+use tables::answer::Change;
+use tables::call::Mark;
+use tables::place::BookPlace;
+use tables::place::BookingCall;
+use tables::place::ClosingCall;
+use tables::place::Destination;
+use tables::place::OwnPlace;
+use tables::place::OwnerCall;
+use tables::place::Place;
+use tables::place::TransferCall;
+use tables::state::Drain;
+use tables::state::Kind;
 use words::Position;
 
 // Until tail = head + capacity a step carries a token, or says end; then one store.
 fn extending(pops: u32, tail: u32, limit: u32, written: u32) -> OwnPlace
-    ensures { λ r. ⌜ Vw.viewOwnPlace r ≡ T.extending pops tail limit written ⌝ }
+    ensures { λ r. ⌜ r ≡ T.extending pops tail limit written ⌝ }
 {
     if tail == limit {
         OwnPlace::ExtendStore {
@@ -47,50 +47,50 @@ fn extending(pops: u32, tail: u32, limit: u32, written: u32) -> OwnPlace
 }
 
 // Check that the buffer is not full.
-fn push_room(s: Sight, token: u64, word: u32, tail: u32, head: u32) -> Next
+fn push_room(s: Context, token: u64, word: u32, tail: u32, head: u32) -> Next
     requires { ⌜ 1 ≤ s .capacity ⌝ }
-    ensures { λ r. ⌜ Vw.viewNext r ≡ T.filled width (Vw.viewSight s) (G.push token) word 0 tail head ⌝ }
+    ensures { λ r. ⌜ r ≡ T.filled width s (OwnerCall.Push token) word 0 tail head ⌝ }
 {
     let mask = s.capacity - 1;
     if mask < words::sub(tail, head) {
-        super::ends(s, Answer::Full(token), Deed::Nothing)
+        row::ends(s, Answer::Full(token), Change::None)
     } else {
-        super::on(
+        row::on(
             s,
             Place::Own(OwnPlace::PushWrite {
                 token: token,
                 word: word,
                 tail: tail,
             }),
-            Deed::Nothing,
+            Change::None,
         )
     }
 }
 
 // The words are loaded for a push, an extend or a spare.
-pub fn filled(s: Sight, fill: Fill, word: u32, pops: u32, tail: u32, head: u32) -> Next
+pub fn filled(s: Context, call: OwnerCall, word: u32, pops: u32, tail: u32, head: u32) -> Next
     requires { ⌜ 1 ≤ s .capacity ⌝ }
-    ensures { λ r. ⌜ Vw.viewNext r ≡ T.filled width (Vw.viewSight s) (Vw.viewFill fill) word pops tail head ⌝ }
+    ensures { λ r. ⌜ r ≡ T.filled width s call word pops tail head ⌝ }
 {
-    match fill {
-        Fill::Push(token) => push_room(s, token, word, tail, head),
-        Fill::Extend => {
-            super::on(
+    match call {
+        OwnerCall::Push(token) => push_room(s, token, word, tail, head),
+        OwnerCall::Extend => {
+            row::on(
                 s,
                 Place::Own(extending(pops, tail, words::add(head, s.capacity), 0)),
-                Deed::Nothing,
+                Change::None,
             )
         }
-        Fill::Spare => super::ends(
+        OwnerCall::Spare => row::ends(
             s,
             Answer::Spare(words::sub(s.capacity, words::sub(tail, head))),
-            Deed::Nothing,
+            Change::None,
         ),
     }
 }
 
 pub fn booking(kind: Kind) -> BookPlace
-    ensures { λ r. ⌜ Vw.viewBookPlace r ≡ T.booking (Vw.viewKind kind) ⌝ }
+    ensures { λ r. ⌜ r ≡ T.booking kind ⌝ }
 {
     match kind {
         Kind::Lifo => BookPlace::LifoPacked,
@@ -99,17 +99,17 @@ pub fn booking(kind: Kind) -> BookPlace
 }
 
 // Compute the free capacity of the destination queue; then booking.
-pub fn brought(s: Sight, errand: Errand, word: u32, tail: u32, head: u32) -> Next
-    ensures { λ r. ⌜ Vw.viewNext r ≡ T.brought width (Vw.viewSight s) (Vw.viewErrand errand) word tail head ⌝ }
+pub fn brought(s: Context, transfer: TransferCall, word: u32, tail: u32, head: u32) -> Next
+    ensures { λ r. ⌜ r ≡ T.brought width s transfer word tail head ⌝ }
 {
     let room = words::sub(s.capacity, words::sub(tail, head));
     let from = s.from;
-    super::on(
+    row::on(
         s,
         Place::Book(
-            Goal::Haul(
-                errand,
-                Dest {
+            BookingCall::Transfer(
+                transfer,
+                Destination {
                     word: word,
                     tail: tail,
                     room: room,
@@ -117,32 +117,32 @@ pub fn brought(s: Sight, errand: Errand, word: u32, tail: u32, head: u32) -> Nex
             ),
             booking(from),
         ),
-        Deed::Nothing,
+        Change::None,
     )
 }
 
 // With nothing open the drain touches nothing.
-fn drain_wants(s: Sight) -> Wanted
-    ensures { λ r. ⌜ Vw.viewWanted r ≡ Vw.wantOf (T.ownRow width (Vw.viewSight s) P.nextItem) ⌝ }
-    ensures { λ r. ⌜ Vw.viewWanted r ≡ Vw.wantOf (T.ownRow width (Vw.viewSight s) P.dropItem) ⌝ }
+fn drain_wants(s: Context) -> Wanted
+    ensures { λ r. ⌜ r ≡ Y.wanted (T.ownRow width s OwnPlace.NextItem) ⌝ }
+    ensures { λ r. ⌜ r ≡ Y.wanted (T.ownRow width s OwnPlace.DropItem) ⌝ }
 {
     if s.drain.at == s.drain.end {
-        super::mine(Access::Touch)
+        row::own(Access::Touch)
     } else {
-        super::mine(Access::Read(Position(s.drain.at)))
+        row::own(Access::Read(Position(s.drain.at)))
     }
 }
 
-pub fn wants(place: OwnPlace, s: Sight) -> Wanted
-    ensures { λ r. ⌜ Vw.viewWanted r ≡ Vw.wantOf (T.ownRow width (Vw.viewSight s) (Vw.viewOwnPlace place)) ⌝ }
+pub fn wants(place: OwnPlace, s: Context) -> Wanted
+    ensures { λ r. ⌜ r ≡ Y.wanted (T.ownRow width s place) ⌝ }
 {
     match place {
         OwnPlace::PushWrite {
             token,
             word: _,
             tail,
-        } => super::mine(Access::Write(Position(tail), token)),
-        OwnPlace::PushStore { word } => super::mine(Access::StoreCount(words::add(word, 1))),
+        } => row::own(Access::Write(Position(tail), token)),
+        OwnPlace::PushStore { word } => row::own(Access::StorePushes(words::add(word, 1))),
         OwnPlace::ExtendMore {
             pops: _,
             tail,
@@ -151,26 +151,26 @@ pub fn wants(place: OwnPlace, s: Sight) -> Wanted
         } => {
             let mark = s.mark;
             match mark {
-                Mark::Carry(token) => super::mine(Access::Write(Position(tail), token)),
-                Mark::End => super::mine(Access::Touch),
-                Mark::Plain => super::mine(Access::Touch),
-                Mark::Weak => super::mine(Access::Touch),
+                Mark::Carry(token) => row::own(Access::Write(Position(tail), token)),
+                Mark::End => row::own(Access::Touch),
+                Mark::Plain => row::own(Access::Touch),
+                Mark::Weak => row::own(Access::Touch),
             }
         }
         OwnPlace::ExtendStore {
             pops,
             tail,
             written: _,
-        } => super::mine(Access::StoreCount(words::add(tail, pops))),
-        OwnPlace::PopRead { at } => super::mine(Access::Read(at)),
+        } => row::own(Access::StorePushes(words::add(tail, pops))),
+        OwnPlace::PopRead { at } => row::own(Access::Read(at)),
         OwnPlace::NextItem => drain_wants(s),
         OwnPlace::DropItem => drain_wants(s),
     }
 }
 
-fn extended(s: Sight, pops: u32, tail: u32, limit: u32, written: u32, seen: Seen) -> Next
-    ensures { λ r. ⌜ Vw.viewNext r
-        ≡ T.extendRow width (Vw.viewSight s) (Vw.viewMark (s .mark)) pops tail limit written .after (Vw.viewSeen seen) ⌝ }
+fn extended(s: Context, pops: u32, tail: u32, limit: u32, written: u32, seen: Seen) -> Next
+    ensures { λ r. ⌜ r
+        ≡ T.extendRow width s (s .mark) pops tail limit written .after seen ⌝ }
 {
     let mark = s.mark;
     let store = OwnPlace::ExtendStore {
@@ -181,87 +181,87 @@ fn extended(s: Sight, pops: u32, tail: u32, limit: u32, written: u32, seen: Seen
     match mark {
         Mark::Carry(token) => {
             let more = extending(pops, words::add(tail, 1), limit, words::add(written, 1));
-            super::on(s, Place::Own(more), Deed::Offered(token))
+            row::on(s, Place::Own(more), Change::Offered(token))
         }
-        Mark::End => super::on(s, Place::Own(store), Deed::Nothing),
-        Mark::Plain => super::on(s, Place::Own(store), Deed::Nothing),
-        Mark::Weak => super::on(s, Place::Own(store), Deed::Nothing),
+        Mark::End => row::on(s, Place::Own(store), Change::None),
+        Mark::Plain => row::on(s, Place::Own(store), Change::None),
+        Mark::Weak => row::on(s, Place::Own(store), Change::None),
     }
 }
 
 // We cannot rely on the caller to call next again after the last item: it closes before it answers.
-fn drained(s: Sight, token: u64) -> Next
-    ensures { λ r. ⌜ Vw.viewNext r ≡ T.drained width (Vw.viewSight s) token ⌝ }
+fn drained(s: Context, token: u64) -> Next
+    ensures { λ r. ⌜ r ≡ T.drained width s token ⌝ }
 {
     let at = words::add(s.drain.at, 1);
     let end = s.drain.end;
     let drain = Drain { at: at, end: end };
     if at == end {
         let kind = s.kind;
-        let place = Place::Close(Ending::Item(token), super::closing::first(kind, end));
+        let place = Place::Close(ClosingCall::Next(token), closing::first(kind, end));
         Next {
             place: place,
             drain: drain,
             answer: Answer::Pending,
-            deed: Deed::Drained,
+            change: Change::Drained,
         }
     } else {
         Next {
             place: Place::Idle,
             drain: drain,
             answer: Answer::Item(token),
-            deed: Deed::Drained,
+            change: Change::Drained,
         }
     }
 }
 
-fn dropping(s: Sight) -> Next
-    ensures { λ r. ⌜ Vw.viewNext r ≡ T.dropping width (Vw.viewSight s) ⌝ }
+fn dropping(s: Context) -> Next
+    ensures { λ r. ⌜ r ≡ T.dropping width s ⌝ }
 {
     let at = words::add(s.drain.at, 1);
     let end = s.drain.end;
     let drain = Drain { at: at, end: end };
     if at == end {
         let kind = s.kind;
-        let place = Place::Close(Ending::Dropped, super::closing::first(kind, end));
+        let place = Place::Close(ClosingCall::Drop, closing::first(kind, end));
         Next {
             place: place,
             drain: drain,
             answer: Answer::Pending,
-            deed: Deed::Dropped(1),
+            change: Change::Dropped(1),
         }
     } else {
         Next {
             place: Place::Own(OwnPlace::DropItem),
             drain: drain,
             answer: Answer::Pending,
-            deed: Deed::Dropped(1),
+            change: Change::Dropped(1),
         }
     }
 }
 
-fn next_item(s: Sight, seen: Seen) -> Next
-    ensures { λ r. ⌜ Vw.viewNext r ≡ T.ownRow width (Vw.viewSight s) P.nextItem .after (Vw.viewSeen seen) ⌝ }
+fn next_item(s: Context, seen: Seen) -> Next
+    ensures { λ r. ⌜ r ≡ T.ownRow width s OwnPlace.NextItem .after seen ⌝ }
 {
     if s.drain.at == s.drain.end {
-        super::ends(s, Answer::Done, Deed::Nothing)
+        row::ends(s, Answer::Done, Change::None)
     } else {
         drained(s, seen.token)
     }
 }
 
-fn drop_item(s: Sight, seen: Seen) -> Next
-    ensures { λ r. ⌜ Vw.viewNext r ≡ T.ownRow width (Vw.viewSight s) P.dropItem .after (Vw.viewSeen seen) ⌝ }
+fn drop_item(s: Context, seen: Seen) -> Next
+    ensures { λ r. ⌜ r ≡ T.ownRow width s OwnPlace.DropItem .after seen ⌝ }
 {
     if s.drain.at == s.drain.end {
-        super::ends(s, Answer::Closed, Deed::Nothing)
+        row::ends(s, Answer::Closed, Change::None)
     } else {
         dropping(s)
     }
 }
 
-pub fn advance(place: OwnPlace, s: Sight, seen: Seen) -> Next
-    ensures { λ r. ⌜ Vw.viewNext r ≡ T.ownRow width (Vw.viewSight s) (Vw.viewOwnPlace place) .after (Vw.viewSeen seen) ⌝ }
+pub fn advance(place: OwnPlace, s: Context, seen: Seen) -> Next
+    ensures { λ r. ⌜ r ≡ T.ownRow width s place .after seen ⌝ }
 {
     match place {
         OwnPlace::PushWrite {
@@ -269,13 +269,13 @@ pub fn advance(place: OwnPlace, s: Sight, seen: Seen) -> Next
             word,
             tail: _,
         } => {
-            super::on(
+            row::on(
                 s,
                 Place::Own(OwnPlace::PushStore { word: word }),
-                Deed::Offered(token),
+                Change::Offered(token),
             )
         }
-        OwnPlace::PushStore { word: _ } => super::ends(s, Answer::Pushed, Deed::Accepted),
+        OwnPlace::PushStore { word: _ } => row::ends(s, Answer::Pushed, Change::Accepted),
         OwnPlace::ExtendMore {
             pops,
             tail,
@@ -286,8 +286,8 @@ pub fn advance(place: OwnPlace, s: Sight, seen: Seen) -> Next
             pops: _,
             tail: _,
             written,
-        } => super::ends(s, Answer::Extended(written), Deed::Accepted),
-        OwnPlace::PopRead { at: _ } => super::ends(s, Answer::Popped(seen.token), Deed::Nothing),
+        } => row::ends(s, Answer::Extended(written), Change::Accepted),
+        OwnPlace::PopRead { at: _ } => row::ends(s, Answer::Popped(seen.token), Change::None),
         OwnPlace::NextItem => next_item(s, seen),
         OwnPlace::DropItem => drop_item(s, seen),
     }

@@ -1,31 +1,30 @@
 // What else a place says: the source it names, the kind whose tables have it, what its step wants; and a call's first place.
 ghost use mathlib.Core.Path.{_≡_};
-ghost use Rattle.tables.specs.Rule as R;
 ghost use Rattle.tables.specs.Access as X;
 ghost use Rattle.tables.specs.Tables as T;
-ghost use Rattle.queue.specs.View as Vw;
-use super::Access;
-use super::BookPlace;
-use super::Call;
-use super::ClosePlace;
-use super::Ending;
-use super::Errand;
-use super::FifoPlace;
-use super::Fill;
-use super::Goal;
-use super::Haul;
-use super::Job;
-use super::Kind;
-use super::LifoPlace;
-use super::Mark;
-use super::MovePlace;
-use super::OwnPlace;
-use super::Place;
-use super::Rule;
-use super::Wish;
+use super::counting;
+use tables::access::Access;
+use tables::access::Wish;
+use tables::call::Call;
+use tables::call::Mark;
+use tables::call::Rule;
+use tables::place::BookPlace;
+use tables::place::BookingCall;
+use tables::place::ClosePlace;
+use tables::place::ClosingCall;
+use tables::place::FifoPlace;
+use tables::place::LifoPlace;
+use tables::place::MovePlace;
+use tables::place::OwnPlace;
+use tables::place::OwnerCall;
+use tables::place::Place;
+use tables::place::RoomCall;
+use tables::place::Transfer;
+use tables::place::TransferCall;
+use tables::state::Kind;
 
 pub fn is_idle(place: Place) -> bool
-    ensures { λ r. ⌜ r ≡ T.isIdle (Vw.viewPlace place) ⌝ }
+    ensures { λ r. ⌜ r ≡ T.isIdle place ⌝ }
 {
     match place {
         Place::Idle => true,
@@ -38,42 +37,42 @@ pub fn is_idle(place: Place) -> bool
     }
 }
 
-fn job_source(who: u64, job: Job) -> u64
-    ensures { λ r. ⌜ r ≡ T.jobSource who (Vw.viewJob job) ⌝ }
+fn room_source(who: u64, call: RoomCall) -> u64
+    ensures { λ r. ⌜ r ≡ T.roomSource who call ⌝ }
 {
-    match job {
-        Job::Fills(_) => who,
-        Job::Brings(errand) => errand.source,
+    match call {
+        RoomCall::Owner(_) => who,
+        RoomCall::Transfer(transfer) => transfer.source,
     }
 }
 
 fn lifo_source(who: u64, place: LifoPlace) -> u64
-    ensures { λ r. ⌜ r ≡ T.lifoSource who (Vw.viewLifoPlace place) ⌝ }
+    ensures { λ r. ⌜ r ≡ T.lifoSource who place ⌝ }
 {
     match place {
-        LifoPlace::LoadCount(job) => job_source(who, job),
-        LifoPlace::LoadPacked { job, count: _ } => job_source(who, job),
-        LifoPlace::LoadDone {
-            job,
-            count: _,
+        LifoPlace::LoadPushes(call) => room_source(who, call),
+        LifoPlace::LoadPacked { call, pushes: _ } => room_source(who, call),
+        LifoPlace::LoadCompleted {
+            call,
+            pushes: _,
             packed: _,
-        } => job_source(who, job),
+        } => room_source(who, call),
         LifoPlace::PopPacked => who,
-        LifoPlace::PopCount { packed: _ } => who,
+        LifoPlace::PopPushes { packed: _ } => who,
         LifoPlace::PopCas { packed: _, tail: _ } => who,
-        LifoPlace::EmptyCount => who,
-        LifoPlace::EmptyPacked { count: _ } => who,
+        LifoPlace::EmptyPushes => who,
+        LifoPlace::EmptyPacked { pushes: _ } => who,
     }
 }
 
 fn fifo_source(who: u64, place: FifoPlace) -> u64
-    ensures { λ r. ⌜ r ≡ T.fifoSource who (Vw.viewFifoPlace place) ⌝ }
+    ensures { λ r. ⌜ r ≡ T.fifoSource who place ⌝ }
 {
     match place {
         FifoPlace::LoadPacked(_) => who,
-        FifoPlace::LoadTail { fill: _, packed: _ } => who,
-        FifoPlace::DestTail(errand) => errand.source,
-        FifoPlace::DestPacked { errand, tail: _ } => errand.source,
+        FifoPlace::LoadTail { call: _, packed: _ } => who,
+        FifoPlace::DestTail(transfer) => transfer.source,
+        FifoPlace::DestPacked { transfer, tail: _ } => transfer.source,
         FifoPlace::PopPacked => who,
         FifoPlace::PopTail { packed: _ } => who,
         FifoPlace::PopCas { packed: _ } => who,
@@ -82,61 +81,61 @@ fn fifo_source(who: u64, place: FifoPlace) -> u64
     }
 }
 
-fn goal_source(who: u64, goal: Goal) -> u64
-    ensures { λ r. ⌜ r ≡ T.goalSource who (Vw.viewGoal goal) ⌝ }
+fn booking_source(who: u64, call: BookingCall) -> u64
+    ensures { λ r. ⌜ r ≡ T.bookingSource who call ⌝ }
 {
-    match goal {
-        Goal::Haul(errand, _) => errand.source,
-        Goal::Drain(_) => who,
+    match call {
+        BookingCall::Transfer(transfer, _) => transfer.source,
+        BookingCall::Drain(_) => who,
     }
 }
 
 fn move_source(place: MovePlace) -> u64
-    ensures { λ r. ⌜ r ≡ T.moveSource (Vw.viewMovePlace place) ⌝ }
+    ensures { λ r. ⌜ r ≡ T.moveSource place ⌝ }
 {
     match place {
-        MovePlace::ReadSlot { trip, moved: _ } => trip.source,
+        MovePlace::ReadSlot { booked, moved: _ } => booked.source,
         MovePlace::WriteSlot {
-            trip,
+            booked,
             moved: _,
             token: _,
-        } => trip.source,
-        MovePlace::Land { trip, last: _ } => trip.source,
+        } => booked.source,
+        MovePlace::Land { booked, last: _ } => booked.source,
     }
 }
 
-fn ending_source(who: u64, ending: Ending) -> u64
-    ensures { λ r. ⌜ r ≡ T.endingSource who (Vw.viewEnding ending) ⌝ }
+fn closing_source(who: u64, call: ClosingCall) -> u64
+    ensures { λ r. ⌜ r ≡ T.closingSource who call ⌝ }
 {
-    match ending {
-        Ending::Stolen { source, count: _ } => source,
-        Ending::Taken {
+    match call {
+        ClosingCall::Steal { source, count: _ } => source,
+        ClosingCall::Take {
             source,
             token: _,
             count: _,
         } => source,
-        Ending::Item(_) => who,
-        Ending::Dropped => who,
+        ClosingCall::Next(_) => who,
+        ClosingCall::Drop => who,
     }
 }
 
 // The source that a place names, or its party's own number.
 pub fn source_of(who: u64, place: Place) -> u64
-    ensures { λ r. ⌜ r ≡ T.sourceOf who (Vw.viewPlace place) ⌝ }
+    ensures { λ r. ⌜ r ≡ T.sourceOf who place ⌝ }
 {
     match place {
         Place::Idle => who,
         Place::Lifo(p) => lifo_source(who, p),
         Place::Fifo(p) => fifo_source(who, p),
         Place::Own(_) => who,
-        Place::Book(g, _) => goal_source(who, g),
+        Place::Book(g, _) => booking_source(who, g),
         Place::Move(p) => move_source(p),
-        Place::Close(e, _) => ending_source(who, e),
+        Place::Close(e, _) => closing_source(who, e),
     }
 }
 
 pub fn is_lifo(kind: Kind) -> bool
-    ensures { λ r. ⌜ r ≡ T.isKind (Vw.viewKind kind) R.lifo ⌝ }
+    ensures { λ r. ⌜ r ≡ T.isKind kind Kind.Lifo ⌝ }
 {
     match kind {
         Kind::Lifo => true,
@@ -145,7 +144,7 @@ pub fn is_lifo(kind: Kind) -> bool
 }
 
 pub fn is_fifo(kind: Kind) -> bool
-    ensures { λ r. ⌜ r ≡ T.isKind (Vw.viewKind kind) R.fifo ⌝ }
+    ensures { λ r. ⌜ r ≡ T.isKind kind Kind.Fifo ⌝ }
 {
     match kind {
         Kind::Lifo => false,
@@ -154,15 +153,18 @@ pub fn is_fifo(kind: Kind) -> bool
 }
 
 fn has_booking(from: Kind, place: BookPlace) -> bool
-    ensures { λ r. ⌜ r ≡ T.isKind (Vw.viewKind from) (T.bookKind (Vw.viewBookPlace place)) ⌝ }
+    ensures { λ r. ⌜ r ≡ T.isKind from (T.bookKind place) ⌝ }
 {
     match place {
         BookPlace::LifoPacked => is_lifo(from),
-        BookPlace::LifoDone { packed: _ } => is_lifo(from),
-        BookPlace::LifoCount { packed: _, done: _ } => is_lifo(from),
+        BookPlace::LifoCompleted { packed: _ } => is_lifo(from),
+        BookPlace::LifoPushes {
+            packed: _,
+            completed: _,
+        } => is_lifo(from),
         BookPlace::LifoCas {
             packed: _,
-            done: _,
+            completed: _,
             count: _,
         } => is_lifo(from),
         BookPlace::FifoPacked => is_fifo(from),
@@ -175,10 +177,10 @@ fn has_booking(from: Kind, place: BookPlace) -> bool
 }
 
 fn has_closing(from: Kind, place: ClosePlace) -> bool
-    ensures { λ r. ⌜ r ≡ T.isKind (Vw.viewKind from) (T.closeKind (Vw.viewClosePlace place)) ⌝ }
+    ensures { λ r. ⌜ r ≡ T.isKind from (T.closeKind place) ⌝ }
 {
     match place {
-        ClosePlace::StoreDone { head: _ } => is_lifo(from),
+        ClosePlace::StoreCompleted { head: _ } => is_lifo(from),
         ClosePlace::LoadHeads => is_fifo(from),
         ClosePlace::CasHeads { packed: _ } => is_fifo(from),
     }
@@ -186,7 +188,7 @@ fn has_closing(from: Kind, place: ClosePlace) -> bool
 
 // Whether the tables of the own queue's kind, and of the source's, have the place.
 pub fn has_place(kind: Kind, from: Kind, place: Place) -> bool
-    ensures { λ r. ⌜ r ≡ T.hasPlace (Vw.viewKind kind) (Vw.viewKind from) (Vw.viewPlace place) ⌝ }
+    ensures { λ r. ⌜ r ≡ T.hasPlace kind from place ⌝ }
 {
     match place {
         Place::Idle => true,
@@ -200,7 +202,7 @@ pub fn has_place(kind: Kind, from: Kind, place: Place) -> bool
 }
 
 fn rule_wish(rule: Rule) -> Wish
-    ensures { λ r. ⌜ Vw.viewWish r ≡ T.ruleWish (Vw.viewRule rule) ⌝ }
+    ensures { λ r. ⌜ r ≡ T.ruleWish rule ⌝ }
 {
     match rule {
         Rule::All => Wish::Nothing,
@@ -210,20 +212,23 @@ fn rule_wish(rule: Rule) -> Wish
     }
 }
 
-fn book_wish(goal: Goal, place: BookPlace) -> Wish
-    ensures { λ r. ⌜ Vw.viewWish r ≡ T.bookWish (Vw.viewGoal goal) (Vw.viewBookPlace place) ⌝ }
+fn book_wish(call: BookingCall, place: BookPlace) -> Wish
+    ensures { λ r. ⌜ r ≡ T.bookWish call place ⌝ }
 {
     match place {
         BookPlace::LifoPacked => Wish::Nothing,
-        BookPlace::LifoDone { packed: _ } => Wish::Nothing,
-        BookPlace::LifoCount { packed: _, done: _ } => rule_wish(super::book::rule_of(goal)),
+        BookPlace::LifoCompleted { packed: _ } => Wish::Nothing,
+        BookPlace::LifoPushes {
+            packed: _,
+            completed: _,
+        } => rule_wish(counting::rule_of(call)),
         BookPlace::LifoCas {
             packed: _,
-            done: _,
+            completed: _,
             count: _,
         } => Wish::Nothing,
         BookPlace::FifoPacked => Wish::Nothing,
-        BookPlace::FifoTail { packed: _ } => rule_wish(super::book::rule_of(goal)),
+        BookPlace::FifoTail { packed: _ } => rule_wish(counting::rule_of(call)),
         BookPlace::FifoCas {
             packed: _,
             count: _,
@@ -232,7 +237,7 @@ fn book_wish(goal: Goal, place: BookPlace) -> Wish
 }
 
 fn own_wish(place: OwnPlace) -> Wish
-    ensures { λ r. ⌜ Vw.viewWish r ≡ T.ownWish (Vw.viewOwnPlace place) ⌝ }
+    ensures { λ r. ⌜ r ≡ T.ownWish place ⌝ }
 {
     match place {
         OwnPlace::PushWrite {
@@ -260,7 +265,7 @@ fn own_wish(place: OwnPlace) -> Wish
 
 // What the step at a place wants to be carried.
 pub fn wish_of(place: Place) -> Wish
-    ensures { λ r. ⌜ Vw.viewWish r ≡ T.wishOf (Vw.viewPlace place) ⌝ }
+    ensures { λ r. ⌜ r ≡ T.wishOf place ⌝ }
 {
     match place {
         Place::Idle => Wish::Nothing,
@@ -274,7 +279,7 @@ pub fn wish_of(place: Place) -> Wish
 }
 
 pub fn wishes(wish: Wish) -> bool
-    ensures { λ r. ⌜ r ≡ T.wishes (Vw.viewWish wish) ⌝ }
+    ensures { λ r. ⌜ r ≡ T.wishes wish ⌝ }
 {
     match wish {
         Wish::Nothing => false,
@@ -284,15 +289,15 @@ pub fn wishes(wish: Wish) -> bool
 }
 
 pub fn is_cas(access: Access) -> bool
-    ensures { λ r. ⌜ r ≡ X.isCas (Vw.viewAccess access) ⌝ }
+    ensures { λ r. ⌜ r ≡ X.isCas access ⌝ }
 {
     match access {
         Access::Touch => false,
-        Access::LoadCount => false,
+        Access::LoadPushes => false,
         Access::LoadPacked => false,
-        Access::LoadDone => false,
-        Access::StoreCount(_) => false,
-        Access::StoreDone(_) => false,
+        Access::LoadCompleted => false,
+        Access::StorePushes(_) => false,
+        Access::StoreCompleted(_) => false,
         Access::Cas { old: _, new: _ } => true,
         Access::Read(_) => false,
         Access::Write(_, _) => false,
@@ -301,7 +306,7 @@ pub fn is_cas(access: Access) -> bool
 
 // Nothing is wanted: plain, or weak at a compare-exchange.
 fn plain_fits(cas: bool, mark: Mark) -> bool
-    ensures { λ r. ⌜ r ≡ T.markFits T.nothing cas (Vw.viewMark mark) ⌝ }
+    ensures { λ r. ⌜ r ≡ T.markFits Wish.Nothing cas mark ⌝ }
 {
     match mark {
         Mark::Plain => true,
@@ -312,7 +317,7 @@ fn plain_fits(cas: bool, mark: Mark) -> bool
 }
 
 fn number_fits(cas: bool, mark: Mark) -> bool
-    ensures { λ r. ⌜ r ≡ T.markFits T.number cas (Vw.viewMark mark) ⌝ }
+    ensures { λ r. ⌜ r ≡ T.markFits Wish.Number cas mark ⌝ }
 {
     match mark {
         Mark::Plain => false,
@@ -323,7 +328,7 @@ fn number_fits(cas: bool, mark: Mark) -> bool
 }
 
 fn token_fits(cas: bool, mark: Mark) -> bool
-    ensures { λ r. ⌜ r ≡ T.markFits T.token cas (Vw.viewMark mark) ⌝ }
+    ensures { λ r. ⌜ r ≡ T.markFits Wish.Token cas mark ⌝ }
 {
     match mark {
         Mark::Plain => false,
@@ -334,7 +339,7 @@ fn token_fits(cas: bool, mark: Mark) -> bool
 }
 
 pub fn mark_fits(wish: Wish, cas: bool, mark: Mark) -> bool
-    ensures { λ r. ⌜ r ≡ T.markFits (Vw.viewWish wish) cas (Vw.viewMark mark) ⌝ }
+    ensures { λ r. ⌜ r ≡ T.markFits wish cas mark ⌝ }
 {
     match wish {
         Wish::Nothing => plain_fits(cas, mark),
@@ -343,69 +348,73 @@ pub fn mark_fits(wish: Wish, cas: bool, mark: Mark) -> bool
     }
 }
 
-fn errand(source: u64, rule: Rule, haul: Haul) -> Errand
-    ensures { λ r. ⌜ Vw.viewErrand r ≡ T.errand source (Vw.viewRule rule) (Vw.viewHaul haul) ⌝ }
+fn transfer_call(source: u64, rule: Rule, which: Transfer) -> TransferCall
+    ensures { λ r. ⌜ r ≡ T.transferCall source rule which ⌝ }
 {
-    Errand {
+    TransferCall {
         source: source,
         rule: rule,
-        haul: haul,
+        transfer: which,
     }
 }
 
 fn start_lifo(call: Call) -> Place
-    ensures { λ r. ⌜ Vw.viewPlace r ≡ T.startLifo (Vw.viewCall call) ⌝ }
+    ensures { λ r. ⌜ r ≡ T.startLifo call ⌝ }
 {
     match call {
-        Call::Push(token) => Place::Lifo(LifoPlace::LoadCount(Job::Fills(Fill::Push(token)))),
+        Call::Push(token) => Place::Lifo(LifoPlace::LoadPushes(RoomCall::Owner(OwnerCall::Push(
+            token,
+        )))),
         Call::Pop => Place::Lifo(LifoPlace::PopPacked),
-        Call::Extend => Place::Lifo(LifoPlace::LoadCount(Job::Fills(Fill::Extend))),
-        Call::Drain(rule) => Place::Book(Goal::Drain(rule), BookPlace::LifoPacked),
+        Call::Extend => Place::Lifo(LifoPlace::LoadPushes(RoomCall::Owner(OwnerCall::Extend))),
+        Call::Drain(rule) => Place::Book(BookingCall::Drain(rule), BookPlace::LifoPacked),
         Call::Next => Place::Own(OwnPlace::NextItem),
         Call::Drop => Place::Own(OwnPlace::DropItem),
-        Call::Steal { source, rule } => Place::Lifo(LifoPlace::LoadCount(Job::Brings(errand(
-            source,
-            rule,
-            Haul::Steals,
-        )))),
-        Call::Take { source, rule } => Place::Lifo(LifoPlace::LoadCount(Job::Brings(errand(
-            source,
-            rule,
-            Haul::Takes,
-        )))),
-        Call::Spare => Place::Lifo(LifoPlace::LoadCount(Job::Fills(Fill::Spare))),
-        Call::Empty => Place::Lifo(LifoPlace::EmptyCount),
+        Call::Steal { source, rule } =>
+            Place::Lifo(LifoPlace::LoadPushes(RoomCall::Transfer(transfer_call(
+                source,
+                rule,
+                Transfer::Steal,
+            )))),
+        Call::Take { source, rule } =>
+            Place::Lifo(LifoPlace::LoadPushes(RoomCall::Transfer(transfer_call(
+                source,
+                rule,
+                Transfer::Take,
+            )))),
+        Call::Spare => Place::Lifo(LifoPlace::LoadPushes(RoomCall::Owner(OwnerCall::Spare))),
+        Call::Empty => Place::Lifo(LifoPlace::EmptyPushes),
     }
 }
 
 fn start_fifo(call: Call) -> Place
-    ensures { λ r. ⌜ Vw.viewPlace r ≡ T.startFifo (Vw.viewCall call) ⌝ }
+    ensures { λ r. ⌜ r ≡ T.startFifo call ⌝ }
 {
     match call {
-        Call::Push(token) => Place::Fifo(FifoPlace::LoadPacked(Fill::Push(token))),
+        Call::Push(token) => Place::Fifo(FifoPlace::LoadPacked(OwnerCall::Push(token))),
         Call::Pop => Place::Fifo(FifoPlace::PopPacked),
-        Call::Extend => Place::Fifo(FifoPlace::LoadPacked(Fill::Extend)),
-        Call::Drain(rule) => Place::Book(Goal::Drain(rule), BookPlace::FifoPacked),
+        Call::Extend => Place::Fifo(FifoPlace::LoadPacked(OwnerCall::Extend)),
+        Call::Drain(rule) => Place::Book(BookingCall::Drain(rule), BookPlace::FifoPacked),
         Call::Next => Place::Own(OwnPlace::NextItem),
         Call::Drop => Place::Own(OwnPlace::DropItem),
-        Call::Steal { source, rule } => Place::Fifo(FifoPlace::DestTail(errand(
+        Call::Steal { source, rule } => Place::Fifo(FifoPlace::DestTail(transfer_call(
             source,
             rule,
-            Haul::Steals,
+            Transfer::Steal,
         ))),
-        Call::Take { source, rule } => Place::Fifo(FifoPlace::DestTail(errand(
+        Call::Take { source, rule } => Place::Fifo(FifoPlace::DestTail(transfer_call(
             source,
             rule,
-            Haul::Takes,
+            Transfer::Take,
         ))),
-        Call::Spare => Place::Fifo(FifoPlace::LoadPacked(Fill::Spare)),
+        Call::Spare => Place::Fifo(FifoPlace::LoadPacked(OwnerCall::Spare)),
         Call::Empty => Place::Fifo(FifoPlace::EmptyPacked),
     }
 }
 
 // A call's first place, by the own queue's kind.
 pub fn start(kind: Kind, call: Call) -> Place
-    ensures { λ r. ⌜ Vw.viewPlace r ≡ T.start (Vw.viewKind kind) (Vw.viewCall call) ⌝ }
+    ensures { λ r. ⌜ r ≡ T.start kind call ⌝ }
 {
     match kind {
         Kind::Lifo => start_lifo(call),
@@ -415,7 +424,7 @@ pub fn start(kind: Kind, call: Call) -> Place
 
 // The source that a call names, or its party's own number.
 pub fn call_source(who: u64, call: Call) -> u64
-    ensures { λ r. ⌜ r ≡ T.callSource who (Vw.viewCall call) ⌝ }
+    ensures { λ r. ⌜ r ≡ T.callSource who call ⌝ }
 {
     match call {
         Call::Push(_) => who,

@@ -3,10 +3,10 @@
 ghost use Prim.Native.Nat.{_+_, _≤_, _<_};
 ghost use mathlib.Core.Path.{_≡_};
 ghost use lib.ListN.{length};
-use machine::MOST;
-use machine::Machine;
 use machine::rest;
-use queue::Kind;
+use tables::state::Kind;
+use tables::state::MOST;
+use tables::state::Machine;
 use text::Line;
 use text::session;
 use text::session::Session;
@@ -178,31 +178,25 @@ fn rest_end(out: &mut [u8], put: usize) -> usize
 }
 
 fn rest_line(m: Machine, items: &[u64], q: usize, out: &mut [u8], put: usize) -> usize
-    requires { ⌜ (q < 16) × (128 ≤ length (now out)) ⌝ }
+    requires { ⌜ 128 ≤ length (now out) ⌝ }
 {
-    let shelf = rest::shelf_of(m, q);
-    let count = shelf.count;
+    let resting = rest::resting_of(m, q as u64);
+    let count = resting.count;
     let mut at = rest_head(out, put, q as u64);
     let mut i: u32 = 0;
     while i < count {
-        let token = rest::token_at(items, shelf, i);
+        let token = rest::token_at(items, resting, i);
         at = rest_token(out, at, token);
         i += 1;
     }
     rest_end(out, at)
 }
 
-fn few(parties: u32) -> usize
-    ensures { λ r. ⌜ r ≤ 16 ⌝ }
-{
-    if parties <= 16 { parties as usize } else { 16 }
-}
-
 // Each queue's resting tokens, head first.
 fn rests(m: Machine, items: &[u64], out: &mut [u8], put: usize) -> usize
     requires { ⌜ 128 ≤ length (now out) ⌝ }
 {
-    let parties = few(m.parties);
+    let parties = m.parties as usize;
     let mut at = put;
     let mut q: usize = 0;
     while q < parties {
@@ -214,8 +208,8 @@ fn rests(m: Machine, items: &[u64], out: &mut [u8], put: usize) -> usize
 
 // ---- the run
 
-fn closed() -> Machine {
-    let opened = machine::open::open(Kind::Lifo, 0, [0u64; MOST], [0u32; MOST], 0);
+fn closed(items: &[u64]) -> Machine {
+    let opened = machine::open::open(Kind::Lifo, 0, [0u64; MOST], [0u32; MOST], items);
     opened.machine
 }
 
@@ -223,7 +217,7 @@ fn finish(s: Session, m: Machine, items: &[u64], out: &mut [u8], put: usize)
     requires { ⌜ 128 ≤ length (now out) ⌝ }
 {
     let stage = s.stage;
-    if session::is_runs(stage) {
+    if session::is_running(stage) {
         let at = rests(m, items, out, put);
         flush(out, at);
     } else {
@@ -242,7 +236,7 @@ fn run(buf: &mut [u8], items: &mut [u64], out: &mut [u8])
         ended: false,
     };
     let mut s = session::start();
-    let mut m = closed();
+    let mut m = closed(items);
     let mut turns = u64::MAX;
     while turns > 0 {
         turns -= 1;

@@ -5,28 +5,33 @@ use mathlib.Core.List.{List}
 use mathlib.Core.Logic.{⊎-elim}
 use lib.ListN.{length, getD, List·getD-eq-default}
 use lib.Seq.{getD-set-same, set-out, getD-set-other}
-use Rattle.tables.specs.Rule.{Mark, lifo}
-use Rattle.tables.specs.Place as P
-use Rattle.tables.specs.Place.{Place}
-use Rattle.tables.specs.Machine.{Drain, Party, Machine, idleParty, partyAt, Queue, zeroQueue, queueAt, baseOf, stretch}
-use Rattle.tables.specs.Access.{Seen}
-use Rattle.tables.specs.Row.{Sight}
+use Rattle.tables.specs.declared.access.Context.{Context}
+use Rattle.tables.specs.declared.access.Seen.{Seen}
+use Rattle.tables.specs.declared.call.Mark.{Mark}
+use Rattle.tables.specs.declared.state.Drain.{Drain}
+use Rattle.tables.specs.declared.state.Kind.the-variants as Kind
+use Rattle.tables.specs.declared.state.Machine.{Machine}
+use Rattle.tables.specs.declared.state.Party.{Party}
+use Rattle.tables.specs.declared.state.Queue.{Queue}
+use Rattle.tables.specs.declared.place.Place.{Place}
+use Rattle.tables.specs.declared.place.Place.the-variants as Place
+use Rattle.tables.specs.Machine.{idleParty, partyAt, zeroQueue, queueAt, baseOf, stretch}
 use Rattle.tables.specs.Tables.{rowOf}
-use Rattle.tables.specs.Step.{placeAt, sightOf, rowAt, accessAt, nextAt, taken, siteAt, isWeak}
+use Rattle.tables.specs.Step.{placeAt, contextOf, rowAt, accessAt, nextAt, taken, siteAt, isWeak}
 use Rattle.tables.proofs.Bools.{less-or-not}
 use Rattle.tables.proofs.Sound.{Sound, taken-alike, bases-alike, site-below, site-fits}
 use mathlib.Core.Bool.{true≢false}
 use Rattle.words.specs.Word.{powBelow}
 use Rattle.words.proofs.Powers.{test-zero}
 use Rattle.tables.specs.Lists.{slotsAt}
-use Rattle.tables.proofs.Access.{perform-keeps}
+use Rattle.tables.proofs.Performed.{perform-keeps}
 use Rattle.tables.proofs.Bases.{stretch-length, stretch-back, stretch-other}
 
 module _ (w : ℕ) (m : Machine) (xs : List ℕ) (who : ℕ) (mark : Mark) where
-  idle-next : (s : Sight) (x : Seen) (p : Place) → p ≡ P.idle
-      → (rowOf w s p .after x .place ≡ P.idle) × (rowOf w s p .after x .drain ≡ s .drain)
+  idle-next : (s : Context) (x : Seen) (p : Place) → p ≡ Place.Idle
+      → (rowOf w s p .after x .place ≡ Place.Idle) × (rowOf w s p .after x .drain ≡ s .drain)
   idle-next s x p e =
-      subst (λ (q : Place). (rowOf w s q .after x .place ≡ P.idle) × (rowOf w s q .after x .drain ≡ s .drain)) (sym e) (refl, refl)
+      subst (λ (q : Place). (rowOf w s q .after x .place ≡ Place.Idle) × (rowOf w s q .after x .drain ≡ s .drain)) (sym e) (refl, refl)
 
   -- also where the table of parties has no such entry: that one is idle
   pub party-after : partyAt (taken w m xs who mark .machine) who
@@ -36,7 +41,7 @@ module _ (w : ℕ) (m : Machine) (xs : List ℕ) (who : ℕ) (mark : Mark) where
       ⊎-elim (λ h. getD-set-same (m .party) who _ idleParty h)
       (λ h.
       let d : partyAt m who ≡ idleParty = List·getD-eq-default (m .party) idleParty h in
-      let n = idle-next (sightOf m who mark) (accessAt w m xs who mark .seen) (placeAt m who) (ap (λ (p : Party). p .place) d) in
+      let n = idle-next (contextOf m who mark) (accessAt w m xs who mark .seen) (placeAt m who) (ap (λ (p : Party). p .place) d) in
       ap (λ (l : List Party). getD l who idleParty) (set-out (m .party) who _ h)
       ∙ d
       ∙ ap₂ (λ (p : Place) (r : Drain). record { place = p; drain = r }) (sym (n .0)) (sym (n .1 ∙ ap (λ (p : Party). p .drain) d)))
@@ -51,14 +56,14 @@ module _ (w : ℕ) (m : Machine) (xs : List ℕ) (who : ℕ) (mark : Mark) where
 
   pub queue-other : (q : ℕ) → (q ≡ siteAt w m who mark → ⊥) → queueAt (taken w m xs who mark .machine) q ≡ queueAt m q
   unfolding taken
-  queue-other q n = getD-set-other (m .queue) (siteAt w m who mark) q _ (zeroQueue lifo) n
+  queue-other q n = getD-set-other (m .queue) (siteAt w m who mark) q _ (zeroQueue Kind.Lifo) n
 
 -- a sound record's own queues are there: a missing one has no capacity
 pub queue-there : (w most : ℕ) (m : Machine) (lent : ℕ) → Sound w most m lent → (q : ℕ) → q < m .parties → q < length (m .queue)
 queue-there w most m lent s q h =
     ⊎-elim (λ l. l)
     (λ l.
-    let e : queueAt m q ≡ zeroQueue lifo = List·getD-eq-default (m .queue) (zeroQueue lifo) l in
+    let e : queueAt m q ≡ zeroQueue Kind.Lifo = List·getD-eq-default (m .queue) (zeroQueue Kind.Lifo) l in
     absurd (true≢false (sym (s .power q h) ∙ ap (λ (x : Queue). powBelow w (x .capacity)) e ∙ test-zero w)))
     (less-or-not q (length (m .queue)))
 
@@ -66,7 +71,7 @@ module _ (w most : ℕ) (m : Machine) (xs : List ℕ) (who : ℕ) (mark : Mark) 
   pub queue-after : queueAt (taken w m xs who mark .machine) (siteAt w m who mark) ≡ accessAt w m xs who mark .queue
   unfolding taken
   queue-after =
-      getD-set-same (m .queue) (siteAt w m who mark) _ (zeroQueue lifo)
+      getD-set-same (m .queue) (siteAt w m who mark) _ (zeroQueue Kind.Lifo)
       (queue-there w most m (length xs) s (siteAt w m who mark) (site-below w most m xs who mark (length xs) s here))
 
   abbrev stretch-of : ℕ → List ℕ → List ℕ

@@ -5,11 +5,11 @@ use mathlib.Core.Bool.{true, false, not}
 use mathlib.Core.List.{List}
 use borrow.Author.Tests.{not-false}
 use lib.ListN.{length}
-use Rattle.tables.specs.Rule.{plain}
-use Rattle.tables.specs.Machine.{Machine}
+use Rattle.tables.specs.declared.call.Mark.the-variants as Mark
+use Rattle.tables.specs.declared.state.Machine.{Machine}
 use Rattle.tables.specs.Answer.{isPending}
 use Rattle.tables.specs.Tables.{isIdle, wishOf, wishes}
-use Rattle.tables.specs.Step.{sound, placeAt, taken, stepRefusal, step, Alone, stops, onward, runs, still, aloneRefusal, alone}
+use Rattle.tables.specs.Step.{sound, placeAt, taken, stepRefusal, step, Alone, stops, onward, runs, until, still, aloneRefusal, alone}
 use Rattle.tables.proofs.Bools.{neither, pick-if}
 use Rattle.tables.proofs.Sound.{Sound, sound-facts, facts-sound, Alike, alike-self, alike-after, taken-alike, taken-goes, taken-sound, taken-length}
 use Rattle.tables.proofs.Refused.{step-taken, CanRun, alone-needs, alone-if, Standing}
@@ -18,12 +18,12 @@ use Rattle.tables.proofs.Steps.{plain-can}
 
 -- what each turn keeps, the run does
 pub runs-if : (w who : ℕ) (P : Alone → Type 0)
-    → ((r : Alone) → P r → stops who r ≡ false → P (onward r (taken w (r .machine) (r .items) who plain)))
+    → ((r : Alone) → P r → stops who r ≡ false → P (onward r (taken w (r .machine) (r .items) who Mark.Plain)))
     → (k : ℕ) (r : Alone) → P r → P (runs w who k r)
-unfolding runs
+unfolding until
 runs-if w who P f zero r p = p
 runs-if w who P f (suc k) r p =
-    pick-if P (stops who r) (λ h. p) (λ h. runs-if w who P f k (onward r (taken w (r .machine) (r .items) who plain)) (f r p h))
+    pick-if P (stops who r) (λ h. p) (λ h. runs-if w who P f k (onward r (taken w (r .machine) (r .items) who Mark.Plain)) (f r p h))
 
 -- a record sound, the party in range, its call under way until it has answered
 pub record Going (w most who : ℕ) (r : Alone) : Type 0 where
@@ -44,24 +44,24 @@ module _ (w most who : ℕ) (r : Alone) (g : Going w most who r) (goes-on : stop
   turn-under-way = g .over ∙ ap not turn-pending
 
   -- a plain step is not refused, so that a turn is that step
-  pub turn-can : stepRefusal w most (r .machine) (length (r .items)) who plain ≡ 0
+  pub turn-can : stepRefusal w most (r .machine) (length (r .items)) who Mark.Plain ≡ 0
   turn-can =
       plain-can w most (r .machine) (length (r .items)) who (facts-sound w most (r .machine) (length (r .items)) (g .facts))
       (g .here) turn-under-way
       turn-wishes
 
-  pub turn-is-step : step w most (r .machine) (r .items) who plain ≡ taken w (r .machine) (r .items) who plain
-  turn-is-step = step-taken w most (r .machine) who plain (r .items) turn-can
+  pub turn-is-step : step w most (r .machine) (r .items) who Mark.Plain ≡ taken w (r .machine) (r .items) who Mark.Plain
+  turn-is-step = step-taken w most (r .machine) who Mark.Plain (r .items) turn-can
 
-  pub turn-length : length (taken w (r .machine) (r .items) who plain .items) ≡ length (r .items)
-  turn-length = taken-length w most (r .machine) (r .items) who plain (length (r .items)) (g .facts) (g .here) refl
+  pub turn-length : length (taken w (r .machine) (r .items) who Mark.Plain .items) ≡ length (r .items)
+  turn-length = taken-length w most (r .machine) (r .items) who Mark.Plain (length (r .items)) (g .facts) (g .here) refl
 
-  pub turn-going : Going w most who (onward r (taken w (r .machine) (r .items) who plain))
+  pub turn-going : Going w most who (onward r (taken w (r .machine) (r .items) who Mark.Plain))
   turn-going = record {
-    facts = rw turn-length (taken-sound w most (r .machine) (r .items) who plain (length (r .items)) (g .facts) (g .here));
-    here = rw (taken-alike w most (r .machine) (r .items) who plain .parties) (g .here);
-    over = ap isIdle (place-after w (r .machine) (r .items) who plain)
-        ∙ unfold taken in taken-goes w most (r .machine) (r .items) who plain .over turn-under-way;
+    facts = rw turn-length (taken-sound w most (r .machine) (r .items) who Mark.Plain (length (r .items)) (g .facts) (g .here));
+    here = rw (taken-alike w most (r .machine) (r .items) who Mark.Plain .parties) (g .here);
+    over = ap isIdle (place-after w (r .machine) (r .items) who Mark.Plain)
+        ∙ unfold taken in taken-goes w most (r .machine) (r .items) who Mark.Plain .over turn-under-way;
   }
 
 -- ---- the run
@@ -78,7 +78,7 @@ module _ (w most who : ℕ) where
   pub runs-alike : (k : ℕ) (r : Alone) → Alike (r .machine) (runs w who k r .machine)
   runs-alike k r =
       runs-if w who (λ (x : Alone). Alike (r .machine) (x .machine))
-      (λ x a h. alike-after a (taken-alike w most (x .machine) (x .items) who plain)) k r (alike-self (r .machine))
+      (λ x a h. alike-after a (taken-alike w most (x .machine) (x .items) who Mark.Plain)) k r (alike-self (r .machine))
 
   pub runs-refusal : (k : ℕ) (r : Alone) → r .refusal ≡ 0 → runs w who k r .refusal ≡ 0
   runs-refusal = runs-if w who (λ (x : Alone). x .refusal ≡ 0) (λ x e h. refl)

@@ -7,13 +7,14 @@ use native.Mathlib.Omega.{arith}
 use native.Mathlib.Numerals.{add-one}
 use lib.ListN.{length, getD, take, drop, set, take-append-drop, length-append, length-take, length-drop}
 use lib.Seq.{length-take-le, take-at, drop-at, take-append-le, drop-append-le, drop-append-add, drop-drop, take-set-le, take-set-lt, drop-set-lt, drop-set-add}
-use Rattle.tables.specs.Rule.{lifo}
-use Rattle.tables.specs.Machine.{Queue, zeroQueue, baseOf, stretch, restretched}
+use Rattle.tables.specs.declared.state.Kind.the-variants as Kind
+use Rattle.tables.specs.declared.state.Queue.{Queue}
+use Rattle.tables.specs.Machine.{zeroQueue, baseOf, stretch, restretched}
 use Rattle.tables.proofs.Bools.{set-keeps, less-or-not}
 
 -- the capacity of queue q
 abbrev pub capacityAt : List Queue → ℕ → ℕ
-capacityAt l q = getD l q (zeroQueue lifo) .capacity
+capacityAt l q = getD l q (zeroQueue Kind.Lifo) .capacity
 
 pub base-next : (q : ℕ) (l : List Queue) → baseOf (suc q) l ≡ baseOf q l + capacityAt l q
 unfolding baseOf
@@ -51,7 +52,7 @@ base-same (suc n) l k e = ap₂ (λ (a b : ℕ). a + b) (base-same n l k e) (e n
 
 -- a queue replaced by one of its capacity
 pub base-set : (n : ℕ) (l : List Queue) (i : ℕ) (x : Queue) → x .capacity ≡ capacityAt l i → baseOf n (set l i x) ≡ baseOf n l
-base-set n l i x e = base-same n (set l i x) l (λ q. set-keeps (λ (y : Queue). y .capacity) l i q x (zeroQueue lifo) e)
+base-set n l i x e = base-same n (set l i x) l (λ q. set-keeps (λ (y : Queue). y .capacity) l i q x (zeroQueue Kind.Lifo) e)
 
 -- ---- stretches
 

@@ -3,143 +3,150 @@ use Prim.Native.Nat.{ℕ, _≤_}
 use mathlib.Core.Bool.{Bool, true, false}
 use native.Mathlib.Omega.{arith}
 use Rattle.words.specs.Word.{pick}
-use Rattle.tables.specs.Errand as G
-use Rattle.tables.specs.Errand.{Fill, Job, Goal}
-use Rattle.tables.specs.LifoPlace as L
-use Rattle.tables.specs.LifoPlace.{LifoPlace}
-use Rattle.tables.specs.FifoPlace as F
-use Rattle.tables.specs.FifoPlace.{FifoPlace}
-use Rattle.tables.specs.Place as P
-use Rattle.tables.specs.Place.{Place, OwnPlace}
-use Rattle.tables.specs.Effect.{Deed, isNothing}
+use Rattle.tables.specs.declared.answer.Change.{Change}
+use Rattle.tables.specs.declared.place.BookingCall.{BookingCall}
+use Rattle.tables.specs.declared.place.BookingCall.the-variants as BookingCall
+use Rattle.tables.specs.declared.place.FifoPlace.{FifoPlace}
+use Rattle.tables.specs.declared.place.FifoPlace.the-variants as FifoPlace
+use Rattle.tables.specs.declared.place.LifoPlace.{LifoPlace}
+use Rattle.tables.specs.declared.place.LifoPlace.the-variants as LifoPlace
+use Rattle.tables.specs.declared.place.OwnPlace.{OwnPlace}
+use Rattle.tables.specs.declared.place.OwnPlace.the-variants as OwnPlace
+use Rattle.tables.specs.declared.place.OwnerCall.{OwnerCall}
+use Rattle.tables.specs.declared.place.OwnerCall.the-variants as OwnerCall
+use Rattle.tables.specs.declared.place.Place.{Place}
+use Rattle.tables.specs.declared.place.Place.the-variants as Place
+use Rattle.tables.specs.declared.place.RoomCall.{RoomCall}
+use Rattle.tables.specs.declared.place.RoomCall.the-variants as RoomCall
+use Rattle.tables.specs.Effect.{isNone}
 
 -- until the answer; tokens dropped one after the other count as one
 
-abbrev pub leftToFill : Fill → ℕ
-leftToFill (G.push t) = 2
-leftToFill G.extend = 1
-leftToFill G.spare = 0
+abbrev pub leftToFill : OwnerCall → ℕ
+leftToFill (OwnerCall.Push t) = 2
+leftToFill OwnerCall.Extend = 1
+leftToFill OwnerCall.Spare = 0
 
-abbrev pub leftOfJob : Job → ℕ
-leftOfJob (G.fills f) = leftToFill f
-leftOfJob (G.brings e) = 3
+abbrev pub leftOfJob : RoomCall → ℕ
+leftOfJob (RoomCall.Owner f) = leftToFill f
+leftOfJob (RoomCall.Transfer e) = 3
 
 abbrev pub leftAtLifo : LifoPlace → ℕ
-leftAtLifo (L.loadCount j) = leftOfJob j
-leftAtLifo (L.loadPacked j n) = leftOfJob j
-leftAtLifo (L.loadDone j n p) = leftOfJob j
-leftAtLifo L.popPacked = 1
-leftAtLifo (L.popCount p) = 1
-leftAtLifo (L.popCas p t) = 1
-leftAtLifo L.emptyCount = 0
-leftAtLifo (L.emptyPacked n) = 0
+leftAtLifo (LifoPlace.LoadPushes j) = leftOfJob j
+leftAtLifo (LifoPlace.LoadPacked j n) = leftOfJob j
+leftAtLifo (LifoPlace.LoadCompleted j n p) = leftOfJob j
+leftAtLifo LifoPlace.PopPacked = 1
+leftAtLifo (LifoPlace.PopPushes p) = 1
+leftAtLifo (LifoPlace.PopCas p t) = 1
+leftAtLifo LifoPlace.EmptyPushes = 0
+leftAtLifo (LifoPlace.EmptyPacked n) = 0
 
 abbrev pub leftAtFifo : FifoPlace → ℕ
-leftAtFifo (F.loadPacked f) = leftToFill f
-leftAtFifo (F.loadTail f p) = leftToFill f
-leftAtFifo (F.destTail e) = 3
-leftAtFifo (F.destPacked e t) = 3
-leftAtFifo F.popPacked = 1
-leftAtFifo (F.popTail p) = 1
-leftAtFifo (F.popCas p) = 1
-leftAtFifo F.emptyPacked = 0
-leftAtFifo (F.emptyTail p) = 0
+leftAtFifo (FifoPlace.LoadPacked f) = leftToFill f
+leftAtFifo (FifoPlace.LoadTail f p) = leftToFill f
+leftAtFifo (FifoPlace.DestTail e) = 3
+leftAtFifo (FifoPlace.DestPacked e t) = 3
+leftAtFifo FifoPlace.PopPacked = 1
+leftAtFifo (FifoPlace.PopTail p) = 1
+leftAtFifo (FifoPlace.PopCas p) = 1
+leftAtFifo FifoPlace.EmptyPacked = 0
+leftAtFifo (FifoPlace.EmptyTail p) = 0
 
 abbrev pub leftAtOwn : OwnPlace → ℕ
-leftAtOwn (P.pushWrite t word tail) = 2
-leftAtOwn (P.pushStore word) = 1
-leftAtOwn (P.extendMore pops tail limit written) = 1
-leftAtOwn (P.extendStore pops tail written) = 1
-leftAtOwn (P.popRead at) = 0
-leftAtOwn P.nextItem = 2
-leftAtOwn P.dropItem = 2
+leftAtOwn (OwnPlace.PushWrite t word tail) = 2
+leftAtOwn (OwnPlace.PushStore word) = 1
+leftAtOwn (OwnPlace.ExtendMore pops tail limit written) = 1
+leftAtOwn (OwnPlace.ExtendStore pops tail written) = 1
+leftAtOwn (OwnPlace.PopRead at) = 0
+leftAtOwn OwnPlace.NextItem = 2
+leftAtOwn OwnPlace.DropItem = 2
 
-abbrev pub leftToBook : Goal → ℕ
-leftToBook (G.haul e d) = 3
-leftToBook (G.drain r) = 1
+abbrev pub leftToBook : BookingCall → ℕ
+leftToBook (BookingCall.Transfer e d) = 3
+leftToBook (BookingCall.Drain r) = 1
 
 abbrev pub left : Place → ℕ
-left P.idle = 0
-left (P.lifo p) = leftAtLifo p
-left (P.fifo p) = leftAtFifo p
-left (P.own p) = leftAtOwn p
-left (P.book g p) = leftToBook g
-left (P.move p) = 2
-left (P.close e p) = 1
+left Place.Idle = 0
+left (Place.Lifo p) = leftAtLifo p
+left (Place.Fifo p) = leftAtFifo p
+left (Place.Own p) = leftAtOwn p
+left (Place.Book g p) = leftToBook g
+left (Place.Move p) = 2
+left (Place.Close e p) = 1
 
 abbrev pub dropsAtOwn : OwnPlace → Bool
-dropsAtOwn (P.pushWrite t word tail) = false
-dropsAtOwn (P.pushStore word) = false
-dropsAtOwn (P.extendMore pops tail limit written) = false
-dropsAtOwn (P.extendStore pops tail written) = false
-dropsAtOwn (P.popRead at) = false
-dropsAtOwn P.nextItem = false
-dropsAtOwn P.dropItem = true
+dropsAtOwn (OwnPlace.PushWrite t word tail) = false
+dropsAtOwn (OwnPlace.PushStore word) = false
+dropsAtOwn (OwnPlace.ExtendMore pops tail limit written) = false
+dropsAtOwn (OwnPlace.ExtendStore pops tail written) = false
+dropsAtOwn (OwnPlace.PopRead at) = false
+dropsAtOwn OwnPlace.NextItem = false
+dropsAtOwn OwnPlace.DropItem = true
 
 -- the place whose step comes again, with an effect each time
 abbrev pub dropsAt : Place → Bool
-dropsAt P.idle = false
-dropsAt (P.lifo p) = false
-dropsAt (P.fifo p) = false
-dropsAt (P.own p) = dropsAtOwn p
-dropsAt (P.book g p) = false
-dropsAt (P.move p) = false
-dropsAt (P.close e p) = false
+dropsAt Place.Idle = false
+dropsAt (Place.Lifo p) = false
+dropsAt (Place.Fifo p) = false
+dropsAt (Place.Own p) = dropsAtOwn p
+dropsAt (Place.Book g p) = false
+dropsAt (Place.Move p) = false
+dropsAt (Place.Close e p) = false
 
 -- 1 for an effect, 0 for none
-abbrev pub effects : Deed → ℕ
-effects d = pick (isNothing d) 0 1
+abbrev pub effects : Change → ℕ
+effects d = pick (isNone d) 0 1
 
 -- ---- three at the most are left, anywhere
 
-left-to-fill : (f : Fill) → leftToFill f ≤ 2
-left-to-fill (G.push t) = omega arith
-left-to-fill G.extend = omega arith
-left-to-fill G.spare = omega arith
+left-to-fill : (f : OwnerCall) → leftToFill f ≤ 2
+left-to-fill (OwnerCall.Push t) = omega arith
+left-to-fill OwnerCall.Extend = omega arith
+left-to-fill OwnerCall.Spare = omega arith
 
-left-of-job : (j : Job) → leftOfJob j ≤ 3
-left-of-job (G.fills f) = omega (arith, left-to-fill f)
-left-of-job (G.brings e) = omega arith
+left-of-job : (j : RoomCall) → leftOfJob j ≤ 3
+left-of-job (RoomCall.Owner f) = omega (arith, left-to-fill f)
+left-of-job (RoomCall.Transfer e) = omega arith
 
 pub left-most : (p : Place) → left p ≤ 3
-left-most P.idle = omega arith
-left-most (P.lifo p) = at p
+left-most Place.Idle = omega arith
+left-most (Place.Lifo p) = at p
   where
     at : (p : LifoPlace) → leftAtLifo p ≤ 3
-    at (L.loadCount j) = left-of-job j
-    at (L.loadPacked j n) = left-of-job j
-    at (L.loadDone j n q) = left-of-job j
-    at L.popPacked = omega arith
-    at (L.popCount q) = omega arith
-    at (L.popCas q t) = omega arith
-    at L.emptyCount = omega arith
-    at (L.emptyPacked n) = omega arith
-left-most (P.fifo p) = at p
+    at (LifoPlace.LoadPushes j) = left-of-job j
+    at (LifoPlace.LoadPacked j n) = left-of-job j
+    at (LifoPlace.LoadCompleted j n q) = left-of-job j
+    at LifoPlace.PopPacked = omega arith
+    at (LifoPlace.PopPushes q) = omega arith
+    at (LifoPlace.PopCas q t) = omega arith
+    at LifoPlace.EmptyPushes = omega arith
+    at (LifoPlace.EmptyPacked n) = omega arith
+left-most (Place.Fifo p) = at p
   where
     at : (p : FifoPlace) → leftAtFifo p ≤ 3
-    at (F.loadPacked f) = omega (arith, left-to-fill f)
-    at (F.loadTail f q) = omega (arith, left-to-fill f)
-    at (F.destTail e) = omega arith
-    at (F.destPacked e t) = omega arith
-    at F.popPacked = omega arith
-    at (F.popTail q) = omega arith
-    at (F.popCas q) = omega arith
-    at F.emptyPacked = omega arith
-    at (F.emptyTail q) = omega arith
-left-most (P.own p) = at p
+    at (FifoPlace.LoadPacked f) = omega (arith, left-to-fill f)
+    at (FifoPlace.LoadTail f q) = omega (arith, left-to-fill f)
+    at (FifoPlace.DestTail e) = omega arith
+    at (FifoPlace.DestPacked e t) = omega arith
+    at FifoPlace.PopPacked = omega arith
+    at (FifoPlace.PopTail q) = omega arith
+    at (FifoPlace.PopCas q) = omega arith
+    at FifoPlace.EmptyPacked = omega arith
+    at (FifoPlace.EmptyTail q) = omega arith
+left-most (Place.Own p) = at p
   where
     at : (p : OwnPlace) → leftAtOwn p ≤ 3
-    at (P.pushWrite t n tail) = omega arith
-    at (P.pushStore n) = omega arith
-    at (P.extendMore c tail limit j) = omega arith
-    at (P.extendStore c tail j) = omega arith
-    at (P.popRead y) = omega arith
-    at P.nextItem = omega arith
-    at P.dropItem = omega arith
-left-most (P.book g p) = at g
+    at (OwnPlace.PushWrite t n tail) = omega arith
+    at (OwnPlace.PushStore n) = omega arith
+    at (OwnPlace.ExtendMore c tail limit j) = omega arith
+    at (OwnPlace.ExtendStore c tail j) = omega arith
+    at (OwnPlace.PopRead y) = omega arith
+    at OwnPlace.NextItem = omega arith
+    at OwnPlace.DropItem = omega arith
+left-most (Place.Book g p) = at g
   where
-    at : (g : Goal) → leftToBook g ≤ 3
-    at (G.haul e d) = omega arith
-    at (G.drain r) = omega arith
-left-most (P.move p) = omega arith
-left-most (P.close e p) = omega arith
+    at : (g : BookingCall) → leftToBook g ≤ 3
+    at (BookingCall.Transfer e d) = omega arith
+    at (BookingCall.Drain r) = omega arith
+left-most (Place.Move p) = omega arith
+left-most (Place.Close e p) = omega arith

@@ -1,8 +1,9 @@
 pub mod Runs
 pub mod Bench
 pub mod Bools
+pub mod Rows
 pub mod Bases
-pub mod Access
+pub mod Performed
 pub mod Left
 pub mod Places
 pub mod Marks
@@ -16,3 +17,5 @@ pub mod Effects
 pub mod Opening
 pub mod OpenSound
 pub mod Updates
+pub mod Tokens
+pub mod Causes

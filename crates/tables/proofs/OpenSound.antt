@@ -3,9 +3,11 @@ use Prim.Native.Nat.{ℕ, _<_}
 use mathlib.Core.Path.{_≡_, refl, sym, subst}
 use mathlib.Core.Bool.{true}
 use mathlib.Core.List.{List}
-use Rattle.tables.specs.Rule.{Kind}
-use Rattle.tables.specs.Machine.{Party, Machine}
-use Rattle.tables.specs.Step.{kindAt, tables, Opened, openQueues, opening, placeAt, sound}
+use Rattle.tables.specs.declared.state.Opened.{Opened}
+use Rattle.tables.specs.declared.state.Kind.{Kind}
+use Rattle.tables.specs.declared.state.Machine.{Machine}
+use Rattle.tables.specs.declared.state.Party.{Party}
+use Rattle.tables.specs.Step.{kindAt, tables, openQueues, opening, placeAt, sound}
 use Rattle.tables.proofs.Sound.{Sound, Placed, facts-sound}
 use Rattle.tables.proofs.Refused.{CanOpen, open-needs, opening-if}
 use Rattle.tables.proofs.Opening.{idle-at, opened-power}

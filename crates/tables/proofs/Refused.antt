@@ -7,14 +7,18 @@ use native.Mathlib.Omega.{arith}
 use borrow.Author.Tests.{ltb-true, lt-ltb, eqb-true, eqb-false, leb-true}
 use lib.Dec.{ltb, leb, eqb}
 use lib.ListN.{length}
+use Rattle.tables.specs.declared.state.Opened.{Opened}
 use Rattle.words.specs.Word.{pick}
-use Rattle.tables.specs.Rule.{Kind, Mark}
-use Rattle.tables.specs.Call.{Call}
-use Rattle.tables.specs.Machine.{Machine, baseOf}
+use Rattle.tables.specs.declared.answer.Answer.the-variants as Answer
+use Rattle.tables.specs.declared.call.Call.{Call}
+use Rattle.tables.specs.declared.call.Mark.{Mark}
+use Rattle.tables.specs.declared.state.Kind.{Kind}
+use Rattle.tables.specs.declared.state.Machine.{Machine}
+use Rattle.tables.specs.Machine.{baseOf}
 use Rattle.tables.specs.Access.{isCas}
-use Rattle.tables.specs.Answer as A
 use Rattle.tables.specs.Tables.{isIdle, wishOf, markFits, callSource}
-use Rattle.tables.specs.Step.{andb, Outcome, noEffect, refused, sound, Opened, tables, closedQueues, openQueues, overTo, openRefusal, opening, begun, beginRefusal, begin, placeAt, rowAt, taken, stepRefusal, step, Alone, runs, still, aloneRefusal, alone}
+use Rattle.tables.specs.Effect.{noEffect}
+use Rattle.tables.specs.Step.{andb, Outcome, refused, sound, tables, closedQueues, openQueues, overTo, openRefusal, opening, begun, beginRefusal, begin, placeAt, rowAt, taken, stepRefusal, step, Alone, runs, still, aloneRefusal, alone}
 use Rattle.tables.proofs.Bools.{pick-if, pick-yes, pick-no, and-left, and-right}
 
 -- ---- a pick that comes to 0 took the other arm
@@ -31,7 +35,7 @@ zero-else false k x p e = (refl, e)
 pub record Unchanged (m : Machine) (xs : List ℕ) (o : Outcome) : Type 0 where
   pub machine : o .machine ≡ m
   pub items : o .items ≡ xs
-  pub answer : o .answer ≡ A.pending
+  pub answer : o .answer ≡ Answer.Pending
   pub effect : o .effect ≡ noEffect
 
 pub unchanged : (m : Machine) (xs : List ℕ) (k : ℕ) → Unchanged m xs (refused m xs k)
@@ -65,7 +69,7 @@ module _ (w most : ℕ) (m : Machine) (who : ℕ) (c : Call) where
 
   module _ (xs : List ℕ) where
     abbrev pub began : Outcome
-    began = record { machine = begun m who c; items = xs; answer = A.pending; effect = noEffect; refusal = 0 }
+    began = record { machine = begun m who c; items = xs; answer = Answer.Pending; effect = noEffect; refusal = 0 }
 
     pub begin-if : (P : Outcome → Type 0) → (beginRefusal w most m (length xs) who c ≡ 0 → P began)
         → ((beginRefusal w most m (length xs) who c ≡ 0 → ⊥) → P (refused m xs (beginRefusal w most m (length xs) who c)))
@@ -159,7 +163,7 @@ module _ (w most : ℕ) (m : Machine) (who : ℕ) where
 pub record Standing (m : Machine) (xs : List ℕ) (r : Alone) : Type 0 where
   pub machine : r .machine ≡ m
   pub items : r .items ≡ xs
-  pub answer : r .answer ≡ A.pending
+  pub answer : r .answer ≡ Answer.Pending
   pub effects : r .effects ≡ []
   pub steps : r .steps ≡ 0
 

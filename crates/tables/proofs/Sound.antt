@@ -1,7 +1,7 @@
 -- What the record test says, as facts; what no call changes; and that a step taken and a call begun keep a record sound.
 use Prim.Native.Nat.{ℕ, zero, suc, _+_, _≤_, _<_}
 use mathlib.Core.Path.{_≡_, refl, sym, ap₂, subst, _∙_}
-use mathlib.Core.Bool.{true, true≢false}
+use mathlib.Core.Bool.{true}
 use mathlib.Core.List.{List}
 use mathlib.Core.Logic.{⊎-elim}
 use native.Mathlib.Omega.{arith}
@@ -10,17 +10,26 @@ use borrow.Author.Tests.{ltb-true, leb-true, lt-ltb, le-leb}
 use lib.Dec.{ltb, leb}
 use lib.ListN.{length, getD, set, length-set}
 use Rattle.words.specs.Word.{powBelow}
-use Rattle.tables.specs.Rule.{Kind, lifo, Mark}
-use Rattle.tables.specs.Call.{Call}
-use Rattle.tables.specs.Place as P
-use Rattle.tables.specs.Place.{Place}
-use Rattle.tables.specs.Machine.{Queue, Party, Machine, idleParty, zeroQueue, partyAt, queueAt, baseOf, stretch}
-use Rattle.tables.specs.Row.{Sight, Next, Whose, mine, theirs}
-use Rattle.tables.specs.Tables.{isIdle, sourceOf, hasPlace, start, callSource}
-use Rattle.tables.specs.Step.{andb, kindAt, soundAt, soundTo, sound, begun, placeAt, sourceAt, sightOf, rowAt, site, siteAt, isWeak, accessAt, nextAt, taken}
+use Rattle.tables.specs.declared.access.Context.{Context}
+use Rattle.tables.specs.declared.access.Next.{Next}
+use Rattle.tables.specs.declared.access.Whose.{Whose}
+use Rattle.tables.specs.declared.access.Whose.the-variants as Whose
+use Rattle.tables.specs.declared.call.Call.{Call}
+use Rattle.tables.specs.declared.call.Mark.{Mark}
+use Rattle.tables.specs.declared.state.Kind.{Kind}
+use Rattle.tables.specs.declared.state.Kind.the-variants as Kind
+use Rattle.tables.specs.declared.state.Machine.{Machine}
+use Rattle.tables.specs.declared.state.Party.{Party}
+use Rattle.tables.specs.declared.state.Queue.{Queue}
+use Rattle.tables.specs.declared.place.Place.{Place}
+use Rattle.tables.specs.declared.place.Place.the-variants as Place
+use Rattle.tables.specs.Machine.{idleParty, zeroQueue, partyAt, queueAt, baseOf, stretch}
+use Rattle.tables.specs.Tables.{sourceOf, hasPlace, start, callSource}
+use Rattle.tables.specs.Step.{andb, kindAt, soundAt, soundTo, sound, begun, placeAt, sourceAt, contextOf, rowAt, site, siteAt, isWeak, accessAt, nextAt, taken}
 use Rattle.tables.proofs.Bools.{and-left, and-right, and-both, set-if, set-keeps}
+use Rattle.tables.proofs.Rows.{idle-is}
 use Rattle.tables.proofs.Bases.{base-same, base-within, stretch-length, restretched-length}
-use Rattle.tables.proofs.Access.{Kept, perform-keeps}
+use Rattle.tables.proofs.Performed.{Kept, perform-keeps}
 use Rattle.tables.proofs.Places.{Goes, goes}
 use Rattle.tables.proofs.Starts.{Starts, starts}
 
@@ -120,19 +129,10 @@ sound-alike w most {m} {k} lent s a f = record {
 }
 
 module _ (ks : ℕ → Kind) (n who : ℕ) (here : who < n) where
-  idle-source : (p : Place) → isIdle p ≡ true → sourceOf who p ≡ who
-  idle-source P.idle e = refl
-  idle-source (P.lifo p) e = absurd (true≢false (sym e))
-  idle-source (P.fifo p) e = absurd (true≢false (sym e))
-  idle-source (P.own p) e = refl
-  idle-source (P.book g p) e = absurd (true≢false (sym e))
-  idle-source (P.move p) e = absurd (true≢false (sym e))
-  idle-source (P.close q p) e = absurd (true≢false (sym e))
-
-  pub placed-next : {s : Sight} {p : Place} {x : Next} → Placed ks n who p → Goes ks who s p x → s .kind ≡ ks who
+  pub placed-next : {s : Context} {p : Place} {x : Next} → Placed ks n who p → Goes ks who s p x → s .kind ≡ ks who
       → s .from ≡ ks (sourceOf who p) → Placed ks n who (x .place)
   placed-next {s} {p} {x} a g k f = record {
-    source = ⊎-elim (λ e. rw (idle-source (x .place) e) here) (λ e. rw e (a .source)) (g .source);
+    source = ⊎-elim (λ e. rw (idle-is (x .place) e) here) (λ e. rw e (a .source)) (g .source);
     kind = g .kind k f (a .kind);
   }
 
@@ -156,24 +156,24 @@ module _ (w most : ℕ) (m : Machine) (xs : List ℕ) (who : ℕ) (mark : Mark) 
       perform-keeps (queueAt m i) slots (rowAt w m who mark .access) (isWeak mark) in
       record {
         parties = refl;
-        kinds = λ q. set-keeps (λ (x : Queue). x .kind) (m .queue) i q (accessAt w m xs who mark .queue) (zeroQueue lifo) (k .kind);
+        kinds = λ q. set-keeps (λ (x : Queue). x .kind) (m .queue) i q (accessAt w m xs who mark .queue) (zeroQueue Kind.Lifo) (k .kind);
         capacities =
-            λ q. set-keeps (λ (x : Queue). x .capacity) (m .queue) i q (accessAt w m xs who mark .queue) (zeroQueue lifo) (k .capacity);
+            λ q. set-keeps (λ (x : Queue). x .capacity) (m .queue) i q (accessAt w m xs who mark .queue) (zeroQueue Kind.Lifo) (k .capacity);
         party-length = length-set (m .party) who _;
         queue-length = length-set (m .queue) i _;
       }
 
   -- where a step leads
-  pub taken-goes : Goes (kindAt m) who (sightOf m who mark) (placeAt m who) (nextAt w m xs who mark)
-  taken-goes = goes (kindAt m) who w (sightOf m who mark) (placeAt m who) (accessAt w m xs who mark .seen)
+  pub taken-goes : Goes (kindAt m) who (contextOf m who mark) (placeAt m who) (nextAt w m xs who mark)
+  taken-goes = goes (kindAt m) who w (contextOf m who mark) (placeAt m who) (accessAt w m xs who mark .seen)
 
   module _ (lent : ℕ) (s : Sound w most m lent) (here : who < m .parties) where
     pub site-below : siteAt w m who mark < m .parties
     site-below = at (rowAt w m who mark .whose)
       where
         at : (x : Whose) → site x who (sourceAt m who) < m .parties
-        at mine = here
-        at theirs = s .placed who here .source
+        at Whose.Own = here
+        at Whose.Source = s .placed who here .source
 
     -- the queue's stretch lies within the lent items
     pub site-fits : baseOf (siteAt w m who mark) (m .queue) + queueAt m (siteAt w m who mark) .capacity ≤ lent

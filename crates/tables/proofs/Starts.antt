@@ -2,10 +2,11 @@
 use Prim.Native.Nat.{ℕ}
 use mathlib.Core.Path.{_≡_, refl, sym, ap}
 use mathlib.Core.Bool.{true, false}
-use Rattle.tables.specs.Rule.{Kind, lifo, fifo}
-use Rattle.tables.specs.Call as C
-use Rattle.tables.specs.Call.{Call}
-use Rattle.tables.specs.Place.{Place}
+use Rattle.tables.specs.declared.call.Call.{Call}
+use Rattle.tables.specs.declared.call.Call.the-variants as Call
+use Rattle.tables.specs.declared.state.Kind.{Kind}
+use Rattle.tables.specs.declared.state.Kind.the-variants as Kind
+use Rattle.tables.specs.declared.place.Place.{Place}
 use Rattle.tables.specs.Tables.{isIdle, sourceOf, isKind, hasPlace, startLifo, startFifo, start, callSource}
 
 pub record Starts (ks : ℕ → Kind) (who : ℕ) (c : Call) (p : Place) : Type 0 where
@@ -14,30 +15,30 @@ pub record Starts (ks : ℕ → Kind) (who : ℕ) (c : Call) (p : Place) : Type 
   pub kind : hasPlace (ks who) (ks (sourceOf who p)) p ≡ true
 
 module _ (ks : ℕ → Kind) (who : ℕ) where
-  at-lifo : isKind (ks who) lifo ≡ true → (c : Call) → Starts ks who c (startLifo c)
-  at-lifo i (C.push t) = record { source = refl; under-way = refl; kind = i }
-  at-lifo i C.pop = record { source = refl; under-way = refl; kind = i }
-  at-lifo i C.extend = record { source = refl; under-way = refl; kind = i }
-  at-lifo i (C.drain r) = record { source = refl; under-way = refl; kind = i }
-  at-lifo i C.next = record { source = refl; under-way = refl; kind = refl }
-  at-lifo i C.drop = record { source = refl; under-way = refl; kind = refl }
-  at-lifo i (C.steal s r) = record { source = refl; under-way = refl; kind = i }
-  at-lifo i (C.take s r) = record { source = refl; under-way = refl; kind = i }
-  at-lifo i C.spare = record { source = refl; under-way = refl; kind = i }
-  at-lifo i C.empty = record { source = refl; under-way = refl; kind = i }
+  at-lifo : isKind (ks who) Kind.Lifo ≡ true → (c : Call) → Starts ks who c (startLifo c)
+  at-lifo i (Call.Push t) = record { source = refl; under-way = refl; kind = i }
+  at-lifo i Call.Pop = record { source = refl; under-way = refl; kind = i }
+  at-lifo i Call.Extend = record { source = refl; under-way = refl; kind = i }
+  at-lifo i (Call.Drain r) = record { source = refl; under-way = refl; kind = i }
+  at-lifo i Call.Next = record { source = refl; under-way = refl; kind = refl }
+  at-lifo i Call.Drop = record { source = refl; under-way = refl; kind = refl }
+  at-lifo i (Call.Steal s r) = record { source = refl; under-way = refl; kind = i }
+  at-lifo i (Call.Take s r) = record { source = refl; under-way = refl; kind = i }
+  at-lifo i Call.Spare = record { source = refl; under-way = refl; kind = i }
+  at-lifo i Call.Empty = record { source = refl; under-way = refl; kind = i }
 
-  at-fifo : isKind (ks who) fifo ≡ true → (c : Call) → Starts ks who c (startFifo c)
-  at-fifo i (C.push t) = record { source = refl; under-way = refl; kind = i }
-  at-fifo i C.pop = record { source = refl; under-way = refl; kind = i }
-  at-fifo i C.extend = record { source = refl; under-way = refl; kind = i }
-  at-fifo i (C.drain r) = record { source = refl; under-way = refl; kind = i }
-  at-fifo i C.next = record { source = refl; under-way = refl; kind = refl }
-  at-fifo i C.drop = record { source = refl; under-way = refl; kind = refl }
-  at-fifo i (C.steal s r) = record { source = refl; under-way = refl; kind = i }
-  at-fifo i (C.take s r) = record { source = refl; under-way = refl; kind = i }
-  at-fifo i C.spare = record { source = refl; under-way = refl; kind = i }
-  at-fifo i C.empty = record { source = refl; under-way = refl; kind = i }
+  at-fifo : isKind (ks who) Kind.Fifo ≡ true → (c : Call) → Starts ks who c (startFifo c)
+  at-fifo i (Call.Push t) = record { source = refl; under-way = refl; kind = i }
+  at-fifo i Call.Pop = record { source = refl; under-way = refl; kind = i }
+  at-fifo i Call.Extend = record { source = refl; under-way = refl; kind = i }
+  at-fifo i (Call.Drain r) = record { source = refl; under-way = refl; kind = i }
+  at-fifo i Call.Next = record { source = refl; under-way = refl; kind = refl }
+  at-fifo i Call.Drop = record { source = refl; under-way = refl; kind = refl }
+  at-fifo i (Call.Steal s r) = record { source = refl; under-way = refl; kind = i }
+  at-fifo i (Call.Take s r) = record { source = refl; under-way = refl; kind = i }
+  at-fifo i Call.Spare = record { source = refl; under-way = refl; kind = i }
+  at-fifo i Call.Empty = record { source = refl; under-way = refl; kind = i }
 
   pub starts : (k : Kind) → k ≡ ks who → (c : Call) → Starts ks who c (start k c)
-  starts lifo e c = at-lifo (ap (λ (k : Kind). isKind k lifo) (sym e)) c
-  starts fifo e c = at-fifo (ap (λ (k : Kind). isKind k fifo) (sym e)) c
+  starts Kind.Lifo e c = at-lifo (ap (λ (k : Kind). isKind k Kind.Lifo) (sym e)) c
+  starts Kind.Fifo e c = at-fifo (ap (λ (k : Kind). isKind k Kind.Fifo) (sym e)) c

@@ -4,9 +4,10 @@ use mathlib.Core.Path.{_≡_, refl}
 use mathlib.Core.Bool.{true, false}
 use mathlib.Core.List.{List}
 use lib.ListN.{length}
-use Rattle.tables.specs.Rule.{Mark, plain}
-use Rattle.tables.specs.Call.{Call}
-use Rattle.tables.specs.Machine.{Machine}
+use Rattle.tables.specs.declared.call.Call.{Call}
+use Rattle.tables.specs.declared.call.Mark.{Mark}
+use Rattle.tables.specs.declared.call.Mark.the-variants as Mark
+use Rattle.tables.specs.declared.state.Machine.{Machine}
 use Rattle.tables.specs.Access.{isCas}
 use Rattle.tables.specs.Tables.{isIdle, wishOf, wishes}
 use Rattle.tables.specs.Step.{Outcome, sound, begin, placeAt, rowAt, taken, stepRefusal, step}
@@ -53,7 +54,7 @@ module _ (w most : ℕ) (m : Machine) (xs : List ℕ) (who : ℕ) where
 
 -- a plain step of a call under way that wishes nothing
 pub plain-can : (w most : ℕ) (m : Machine) (lent who : ℕ) → sound w most m lent ≡ true → who < m .parties → isIdle (placeAt m who) ≡ false
-    → wishes (wishOf (placeAt m who)) ≡ false → stepRefusal w most m lent who plain ≡ 0
+    → wishes (wishOf (placeAt m who)) ≡ false → stepRefusal w most m lent who Mark.Plain ≡ 0
 plain-can w most m lent who s h i n =
-    step-can w most m who plain lent
-    (record { sound-is = s; here = h; under-way = i; fits = plain-fits (wishOf (placeAt m who)) (isCas (rowAt w m who plain .access)) n })
+    step-can w most m who Mark.Plain lent
+    (record { sound-is = s; here = h; under-way = i; fits = plain-fits (wishOf (placeAt m who)) (isCas (rowAt w m who Mark.Plain .access)) n })

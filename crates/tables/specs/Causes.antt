@@ -1,26 +1,33 @@
 -- Document 01, "Causes", and demand 3's premise: what is noted along a run from the lists alone, and what each answer leans on.
 use Prim.Native.Nat.{ℕ, _+_, _-_, _^_, _<_}
 use mathlib.Core.Path.{_≡_}
-use mathlib.Core.Logic.{_⊎_}
+use mathlib.Core.Logic.{_≢_, _⊎_}
 use mathlib.Core.Bool.{Bool, true, false}
-use mathlib.Core.List.{List, []}
+use mathlib.Core.List.{[]}
 use lib.ListN.{length}
-use lib.Dec.{eqb}
 use Rattle.words.specs.Word.{pick, orb, minus, high}
-use Rattle.tables.specs.Rule.{Mark, ruled}
-use Rattle.tables.specs.Errand as G
-use Rattle.tables.specs.Errand.{Goal}
-use Rattle.tables.specs.LifoPlace as L
-use Rattle.tables.specs.LifoPlace.{LifoPlace}
-use Rattle.tables.specs.FifoPlace as F
-use Rattle.tables.specs.FifoPlace.{FifoPlace}
-use Rattle.tables.specs.Place as P
-use Rattle.tables.specs.Place.{Place, BookPlace}
-use Rattle.tables.specs.Machine.{Queue, Machine, queueAt}
-use Rattle.tables.specs.Answer as A
-use Rattle.tables.specs.Answer.{Answer}
-use Rattle.tables.specs.Effect as E
-use Rattle.tables.specs.Effect.{Deed}
+use Rattle.tables.specs.declared.answer.Answer.{Answer}
+use Rattle.tables.specs.declared.answer.Change.{Change}
+use Rattle.tables.specs.declared.answer.Change.the-variants as Change
+use Rattle.tables.specs.declared.call.Mark.{Mark}
+use Rattle.tables.specs.declared.state.Machine.{Machine}
+use Rattle.tables.specs.declared.state.Queue.{Queue}
+use Rattle.tables.specs.declared.place.BookPlace.{BookPlace}
+use Rattle.tables.specs.declared.place.BookPlace.the-variants as BookPlace
+use Rattle.tables.specs.declared.place.BookingCall.{BookingCall}
+use Rattle.tables.specs.declared.place.BookingCall.the-variants as BookingCall
+use Rattle.tables.specs.declared.place.FifoPlace.{FifoPlace}
+use Rattle.tables.specs.declared.place.FifoPlace.the-variants as FifoPlace
+use Rattle.tables.specs.declared.place.LifoPlace.{LifoPlace}
+use Rattle.tables.specs.declared.place.LifoPlace.the-variants as LifoPlace
+use Rattle.tables.specs.declared.place.Place.{Place}
+use Rattle.tables.specs.declared.place.Place.the-variants as Place
+use Rattle.tables.specs.declared.place.Transfer.{Transfer}
+use Rattle.tables.specs.declared.place.Transfer.the-variants as Transfer
+use Rattle.tables.specs.Rule.{ruled}
+use Rattle.tables.specs.Machine.{queueAt}
+use Rattle.tables.specs.Answer.{Reason, nothing, noneRested, noneFree, oneOpen, noneToBook, answerRow}
+use Rattle.tables.specs.Effect.{movesOf}
 use Rattle.tables.specs.Table.{ruleOf}
 use Rattle.tables.specs.LifoTable.{restOf}
 use Rattle.tables.specs.Step.{placeAt, sourceAt}
@@ -38,75 +45,83 @@ pub record Notes : Type 0 where
 abbrev pub noNotes : Notes
 noNotes = record { moved = λ q. 0; first = λ p. 0; opened = λ p. false; fill = λ p. 0 }
 
-abbrev pub movedBy : Deed → ℕ
-movedBy E.nothing = 0
-movedBy (E.offered t) = 0
-movedBy E.accepted = 0
-movedBy E.popped = 1
-movedBy (E.booked n) = n
-movedBy (E.landed n) = 0
-movedBy (E.landedLast n) = 0
-movedBy E.drained = 0
-movedBy (E.dropped n) = 0
-movedBy E.closed = 0
+-- a call that begins has noted nothing yet: what its party's last call had noted is cleared
+abbrev pub begunNotes : ℕ → Notes → Notes
+begunNotes p n = record { moved = n .moved; first = update (n .first) p 0; opened = update (n .opened) p false; fill = update (n .fill) p 0 }
+
+-- ---- places
+
+-- what is said of a booking's place; at any other place, the first
+abbrev pub atBooking {ℓ} : {A : Type ℓ} → A → (BookingCall → BookPlace → A) → Place → A
+atBooking a f Place.Idle = a
+atBooking a f (Place.Lifo p) = a
+atBooking a f (Place.Fifo p) = a
+atBooking a f (Place.Own p) = a
+atBooking a f (Place.Book g p) = f g p
+atBooking a f (Place.Move p) = a
+atBooking a f (Place.Close e p) = a
 
 -- a booking's first load
-abbrev pub booksFirst : BookPlace → Bool
-booksFirst P.lifoPacked = true
-booksFirst (P.lifoDone p) = false
-booksFirst (P.lifoCount p d) = false
-booksFirst (P.lifoCas p d k) = false
-booksFirst P.fifoPacked = true
-booksFirst (P.fifoTail p) = false
-booksFirst (P.fifoCas p k) = false
+abbrev pub isFirst : BookPlace → Bool
+isFirst BookPlace.LifoPacked = true
+isFirst (BookPlace.LifoCompleted p) = false
+isFirst (BookPlace.LifoPushes p d) = false
+isFirst (BookPlace.LifoCas p d k) = false
+isFirst BookPlace.FifoPacked = true
+isFirst (BookPlace.FifoTail p) = false
+isFirst (BookPlace.FifoCas p k) = false
 
 abbrev pub isFirstLoad : Place → Bool
-isFirstLoad P.idle = false
-isFirstLoad (P.lifo p) = false
-isFirstLoad (P.fifo p) = false
-isFirstLoad (P.own p) = false
-isFirstLoad (P.book g p) = booksFirst p
-isFirstLoad (P.move p) = false
-isFirstLoad (P.close e p) = false
+isFirstLoad p = atBooking false (λ g b. isFirst b) p
+
+-- the n = tail - head that a booking's count load sees, of the push count (FIFO tail) it loads; 0 at its other places
+abbrev pub seenAt : ℕ → BookPlace → (pushes : ℕ) → ℕ
+seenAt w BookPlace.LifoPacked x = 0
+seenAt w (BookPlace.LifoCompleted p) x = 0
+seenAt w (BookPlace.LifoPushes p d) x = restOf w x p
+seenAt w (BookPlace.LifoCas p d k) x = 0
+seenAt w BookPlace.FifoPacked x = 0
+seenAt w (BookPlace.FifoTail p) x = minus w x (high w p)
+seenAt w (BookPlace.FifoCas p k) x = 0
 
 -- the load of the head that room is tested by: LIFO completed head, FIFO packed
 abbrev pub lifoHeadLoad : LifoPlace → Bool
-lifoHeadLoad (L.loadCount j) = false
-lifoHeadLoad (L.loadPacked j n) = false
-lifoHeadLoad (L.loadDone j n p) = true
-lifoHeadLoad L.popPacked = false
-lifoHeadLoad (L.popCount p) = false
-lifoHeadLoad (L.popCas p t) = false
-lifoHeadLoad L.emptyCount = false
-lifoHeadLoad (L.emptyPacked n) = false
+lifoHeadLoad (LifoPlace.LoadPushes j) = false
+lifoHeadLoad (LifoPlace.LoadPacked j n) = false
+lifoHeadLoad (LifoPlace.LoadCompleted j n p) = true
+lifoHeadLoad LifoPlace.PopPacked = false
+lifoHeadLoad (LifoPlace.PopPushes p) = false
+lifoHeadLoad (LifoPlace.PopCas p t) = false
+lifoHeadLoad LifoPlace.EmptyPushes = false
+lifoHeadLoad (LifoPlace.EmptyPacked n) = false
 
 abbrev pub fifoHeadLoad : FifoPlace → Bool
-fifoHeadLoad (F.loadPacked f) = true
-fifoHeadLoad (F.loadTail f p) = false
-fifoHeadLoad (F.destTail e) = false
-fifoHeadLoad (F.destPacked e t) = true
-fifoHeadLoad F.popPacked = false
-fifoHeadLoad (F.popTail p) = false
-fifoHeadLoad (F.popCas p) = false
-fifoHeadLoad F.emptyPacked = false
-fifoHeadLoad (F.emptyTail p) = false
+fifoHeadLoad (FifoPlace.LoadPacked f) = true
+fifoHeadLoad (FifoPlace.LoadTail f p) = false
+fifoHeadLoad (FifoPlace.DestTail e) = false
+fifoHeadLoad (FifoPlace.DestPacked e t) = true
+fifoHeadLoad FifoPlace.PopPacked = false
+fifoHeadLoad (FifoPlace.PopTail p) = false
+fifoHeadLoad (FifoPlace.PopCas p) = false
+fifoHeadLoad FifoPlace.EmptyPacked = false
+fifoHeadLoad (FifoPlace.EmptyTail p) = false
 
 abbrev pub isHeadLoad : Place → Bool
-isHeadLoad P.idle = false
-isHeadLoad (P.lifo p) = lifoHeadLoad p
-isHeadLoad (P.fifo p) = fifoHeadLoad p
-isHeadLoad (P.own p) = false
-isHeadLoad (P.book g p) = false
-isHeadLoad (P.move p) = false
-isHeadLoad (P.close e p) = false
+isHeadLoad Place.Idle = false
+isHeadLoad (Place.Lifo p) = lifoHeadLoad p
+isHeadLoad (Place.Fifo p) = fifoHeadLoad p
+isHeadLoad (Place.Own p) = false
+isHeadLoad (Place.Book g p) = false
+isHeadLoad (Place.Move p) = false
+isHeadLoad (Place.Close e p) = false
 
 abbrev pub fillOf : Lists → ℕ
 fillOf l = length (l .resting) + l .kept
 
--- Noted at a step of party `who` that the machine m takes: the lists before and after it, the queue and the deed of its effect.
-unfoldable pub notes : Machine → ℕ → (before after : Plain) → (queue : ℕ) → Deed → Notes → Notes
+-- Noted at a step of party `who` that the machine m takes: the lists before and after it, the queue and the change of its effect.
+unfoldable pub notes : Machine → ℕ → (before after : Plain) → (queue : ℕ) → Change → Notes → Notes
 notes m who a a′ q d n = record {
-  moved = update (n .moved) q (n .moved q + movedBy d);
+  moved = update (n .moved) q (n .moved q + movesOf d);
   first = pick (isFirstLoad (placeAt m who)) (update (n .first) who (n .moved (sourceAt m who))) (n .first);
   opened =
       λ p.
@@ -117,76 +132,43 @@ notes m who a a′ q d n = record {
 
 -- ---- the premise: between a booking's first load and its success or refusal, fewer than 2 ^ (w - 1) items are popped or booked there
 
-abbrev pub bookPremise : ℕ → BookPlace → (first moved : ℕ) → Type 0
-bookPremise half P.lifoPacked f v = Unit {0}
-bookPremise half (P.lifoDone p) f v = v < f + half
-bookPremise half (P.lifoCount p d) f v = v < f + half
-bookPremise half (P.lifoCas p d k) f v = v < f + half
-bookPremise half P.fifoPacked f v = Unit {0}
-bookPremise half (P.fifoTail p) f v = v < f + half
-bookPremise half (P.fifoCas p k) f v = v < f + half
-
+-- at a booking's place other than its first load
 abbrev pub placePremise : ℕ → Place → (first moved : ℕ) → Type 0
-placePremise half P.idle f v = Unit {0}
-placePremise half (P.lifo p) f v = Unit {0}
-placePremise half (P.fifo p) f v = Unit {0}
-placePremise half (P.own p) f v = Unit {0}
-placePremise half (P.book g p) f v = bookPremise half p f v
-placePremise half (P.move p) f v = Unit {0}
-placePremise half (P.close e p) f v = Unit {0}
+placePremise half p f v = atBooking (Unit {0}) (λ g b. isFirst b ≡ false → v < f + half) p
 
 abbrev pub Premise : ℕ → Machine → Notes → ℕ → Type 0
 Premise w m n who = placePremise (2 ^ (w - 1)) (placeAt m who) (n .first who) (n .moved (sourceAt m who))
 
--- ---- the causes, at the step of party `who` that answers: the lists and the notes as they are after it
+-- ---- the causes, at the step of party `who` that answers: the lists at that step, which such an answer leaves as they are, and the notes
+-- after it
 
--- the rule gave 0 for the n that the count load saw
-abbrev pub countedZero : ℕ → Goal → BookPlace → Queue → Mark → Type 0
-countedZero w g P.lifoPacked q mark = ⊥
-countedZero w g (P.lifoDone p) q mark = ⊥
-countedZero w g (P.lifoCount p d) q mark = ruled (ruleOf g) mark (restOf w (q .count) p) ≡ 0
-countedZero w g (P.lifoCas p d k) q mark = ⊥
-countedZero w g P.fifoPacked q mark = ⊥
-countedZero w g (P.fifoTail p) q mark = ruled (ruleOf g) mark (minus w (q .count) (high w p)) ≡ 0
-countedZero w g (P.fifoCas p k) q mark = ⊥
+-- the rule gave 0 for the n that the count load saw, which was not 0: where none rested that is the cause, whatever the rule
+abbrev pub gaveZero : BookingCall → Mark → (seen : ℕ) → Type 0
+gaveZero g mark n = (n ≢ 0) × (ruled (ruleOf g) mark n ≡ 0)
 
 abbrev pub ruleGaveZero : ℕ → Place → Queue → Mark → Type 0
-ruleGaveZero w P.idle q mark = ⊥
-ruleGaveZero w (P.lifo p) q mark = ⊥
-ruleGaveZero w (P.fifo p) q mark = ⊥
-ruleGaveZero w (P.own p) q mark = ⊥
-ruleGaveZero w (P.book g p) q mark = countedZero w g p q mark
-ruleGaveZero w (P.move p) q mark = ⊥
-ruleGaveZero w (P.close e p) q mark = ⊥
+ruleGaveZero w p q mark = atBooking ⊥ (λ g b. gaveZero g mark (seenAt w b (q .pushes))) p
 
--- a steal's or a take's destination had no room; a drain has none
+-- a steal's destination had no room; a take needs none, since its limit is room + 1, and a drain has no destination
+abbrev pub steals : Transfer → Bool
+steals Transfer.Steal = true
+steals Transfer.Take = false
+
+abbrev pub isSteal : BookingCall → Bool
+isSteal (BookingCall.Transfer e d) = steals (e .transfer)
+isSteal (BookingCall.Drain r) = false
+
 abbrev pub noRoom : Place → (fill capacity : ℕ) → Type 0
-noRoom P.idle f c = ⊥
-noRoom (P.lifo p) f c = ⊥
-noRoom (P.fifo p) f c = ⊥
-noRoom (P.own p) f c = ⊥
-noRoom (P.book (G.haul e d) p) f c = f ≡ c
-noRoom (P.book (G.drain r) p) f c = ⊥
-noRoom (P.move p) f c = ⊥
-noRoom (P.close e p) f c = ⊥
+noRoom p f c = atBooking ⊥ (λ g b. (isSteal g ≡ true) × (f ≡ c)) p
 
-abbrev pub Cause : ℕ → Machine → ℕ → Mark → Plain → Notes → Answer → Type 0
-Cause w m who mark a n A.none = a .queue who .resting ≡ []
-Cause w m who mark a n (A.full t) = n .fill who ≡ queueAt m who .capacity
-Cause w m who mark a n A.busy = n .opened who ≡ true
-Cause w m who mark a n A.empty =
+abbrev pub CauseOf : ℕ → Machine → ℕ → Mark → Plain → Notes → Reason → Type 0
+CauseOf w m who mark a n nothing = Unit {0}
+CauseOf w m who mark a n noneRested = a .queue who .resting ≡ []
+CauseOf w m who mark a n noneFree = n .fill who ≡ queueAt m who .capacity
+CauseOf w m who mark a n oneOpen = n .opened who ≡ true
+CauseOf w m who mark a n noneToBook =
     (a .queue (sourceAt m who) .resting ≡ []) ⊎ (noRoom (placeAt m who) (n .fill who) (queueAt m who .capacity)
     ⊎ ruleGaveZero w (placeAt m who) (queueAt m (sourceAt m who)) mark)
-Cause w m who mark a n A.pending = Unit {0}
-Cause w m who mark a n A.pushed = Unit {0}
-Cause w m who mark a n (A.popped t) = Unit {0}
-Cause w m who mark a n (A.extended k) = Unit {0}
-Cause w m who mark a n (A.stolen k) = Unit {0}
-Cause w m who mark a n (A.taken t k) = Unit {0}
-Cause w m who mark a n (A.drain k) = Unit {0}
-Cause w m who mark a n (A.item t) = Unit {0}
-Cause w m who mark a n A.done = Unit {0}
-Cause w m who mark a n A.closed = Unit {0}
-Cause w m who mark a n (A.spare k) = Unit {0}
-Cause w m who mark a n A.yes = Unit {0}
-Cause w m who mark a n A.no = Unit {0}
+
+abbrev pub Cause : ℕ → Machine → ℕ → Mark → Plain → Notes → Answer → Type 0
+Cause w m who mark a n answer = CauseOf w m who mark a n (answerRow answer .reason)

@@ -1,11 +1,6 @@
 pub mod Rule
-pub mod Call
 pub mod Answer
 pub mod Effect
-pub mod Errand
-pub mod LifoPlace
-pub mod FifoPlace
-pub mod Place
 pub mod Machine
 pub mod Access
 pub mod Row
@@ -15,4 +10,5 @@ pub mod FifoTable
 pub mod Tables
 pub mod Step
 pub mod Lists
+pub mod Shows
 pub mod Causes

@@ -1,16 +1,20 @@
 -- Document 01, "Effects and the plain lists": what each effect does to the lists, and when it cannot be done.
-use Prim.Native.Nat.{ℕ, zero, suc, _+_, _-_, _%_}
+use Prim.Native.Nat.{ℕ, zero, suc, _+_, _-_}
 use mathlib.Core.Bool.{Bool, true, false, not}
 use mathlib.Core.List.{List, [], _∷_, _++_}
 use lib.ListN.{length, getD, take, drop}
 use lib.Dec.{ltb, leb, eqb}
-use Rattle.words.specs.Word.{pick, minus, high, low}
-use Rattle.tables.specs.Rule.{Kind, lifo, fifo}
-use Rattle.tables.specs.Machine.{Queue, Machine, queueAt, baseOf, stretch}
-use Rattle.tables.specs.Answer as A
-use Rattle.tables.specs.Answer.{Answer}
-use Rattle.tables.specs.Effect as E
-use Rattle.tables.specs.Effect.{Deed, Effect}
+use Rattle.words.specs.Word.{pick, plus, minus, high, low, slotOf, powBelow}
+use Rattle.tables.specs.declared.answer.Answer.{Answer}
+use Rattle.tables.specs.declared.answer.Change.{Change}
+use Rattle.tables.specs.declared.answer.Change.the-variants as Change
+use Rattle.tables.specs.declared.answer.Effect.{Effect}
+use Rattle.tables.specs.declared.state.Kind.{Kind}
+use Rattle.tables.specs.declared.state.Kind.the-variants as Kind
+use Rattle.tables.specs.declared.state.Machine.{Machine}
+use Rattle.tables.specs.declared.state.Queue.{Queue}
+use Rattle.tables.specs.Machine.{queueAt, baseOf, stretch}
+use Rattle.tables.specs.Answer.{handedOut}
 use Rattle.tables.specs.Step.{andb}
 
 -- whether a booking is open, and whose
@@ -63,16 +67,16 @@ accept l = record { waiting = []; resting = l .resting ++ l .waiting; booked = l
 
 -- popped takes the last (LIFO) or first (FIFO) of resting; in FIFO its slot is not given back while a booking is open
 abbrev pub popFrom : Kind → List ℕ → ℕ
-popFrom lifo l = getD l (length l - 1) 0
-popFrom fifo l = getD l 0 0
+popFrom Kind.Lifo l = getD l (length l - 1) 0
+popFrom Kind.Fifo l = getD l 0 0
 
 abbrev pub popRest : Kind → List ℕ → List ℕ
-popRest lifo l = take (length l - 1) l
-popRest fifo l = drop 1 l
+popRest Kind.Lifo l = take (length l - 1) l
+popRest Kind.Fifo l = drop 1 l
 
 abbrev pub popKept : Kind → Holder → ℕ → ℕ
-popKept lifo h k = k
-popKept fifo h k = pick (isOpen h) (k + 1) k
+popKept Kind.Lifo h k = k
+popKept Kind.Fifo h k = pick (isOpen h) (k + 1) k
 
 unfoldable pub pop : Kind → Lists → Lists
 pop k l = record {
@@ -117,17 +121,17 @@ lands a p q n leaving =
     (arrive (take n (a .queue q .booked)) (update (a .queue) q (leave leaving (a .queue q)) p))
 
 -- by the kind of each queue, the party and the queue that the effect names
-unfoldable pub does : (ℕ → Kind) → (party queue : ℕ) → Deed → Plain → Plain
-does ks p q E.nothing a = a
-does ks p q (E.offered t) a = onQueue a q (offer t (a .queue q))
-does ks p q E.accepted a = onQueue a q (accept (a .queue q))
-does ks p q E.popped a = inHand (onQueue a q (pop (ks q) (a .queue q))) p (popFrom (ks q) (a .queue q .resting) ∷ [])
-does ks p q (E.booked n) a = onQueue a q (book p n (a .queue q))
-does ks p q (E.landed n) a = lands a p q n n
-does ks p q (E.landedLast n) a = inHand (lands a p q n (n + 1)) p (getD (a .queue q .booked) n 0 ∷ [])
-does ks p q E.drained a = inHand (onQueue a q (leave 1 (a .queue q))) p (getD (a .queue q .booked) 0 0 ∷ [])
-does ks p q (E.dropped n) a = dropsOut (onQueue a q (leave n (a .queue q))) (take n (a .queue q .booked))
-does ks p q E.closed a = onQueue a q (shut (a .queue q))
+unfoldable pub does : (ℕ → Kind) → (party queue : ℕ) → Change → Plain → Plain
+does ks p q Change.None a = a
+does ks p q (Change.Offered t) a = onQueue a q (offer t (a .queue q))
+does ks p q Change.Accepted a = onQueue a q (accept (a .queue q))
+does ks p q Change.Popped a = inHand (onQueue a q (pop (ks q) (a .queue q))) p (popFrom (ks q) (a .queue q .resting) ∷ [])
+does ks p q (Change.Booked n) a = onQueue a q (book p n (a .queue q))
+does ks p q (Change.Landed n) a = lands a p q n n
+does ks p q (Change.TakeLanded n) a = inHand (lands a p q n (n + 1)) p (getD (a .queue q .booked) n 0 ∷ [])
+does ks p q Change.Drained a = inHand (onQueue a q (leave 1 (a .queue q))) p (getD (a .queue q .booked) 0 0 ∷ [])
+does ks p q (Change.Dropped n) a = dropsOut (onQueue a q (leave n (a .queue q))) (take n (a .queue q .booked))
+does ks p q Change.Closed a = onQueue a q (shut (a .queue q))
 
 abbrev pub isNil : List ℕ → Bool
 isNil [] = true
@@ -135,38 +139,19 @@ isNil (t ∷ ts) = false
 
 -- What the lists can do: an owner offers, accepts and pops what is there; booking takes what rests where none is open; only the
 -- holder moves booked tokens, which are there, and closes when none is left.
-unfoldable pub can : (party queue : ℕ) → Deed → Lists → Bool
-can p q E.nothing l = true
-can p q (E.offered t) l = eqb p q
-can p q E.accepted l = eqb p q
-can p q E.popped l = andb (eqb p q) (not (isNil (l .resting)))
-can p q (E.booked n) l = andb (not (isOpen (l .holder))) (andb (ltb 0 n) (leb n (length (l .resting))))
-can p q (E.landed n) l = andb (heldBy p (l .holder)) (leb n (length (l .booked)))
-can p q (E.landedLast n) l = andb (heldBy p (l .holder)) (ltb n (length (l .booked)))
-can p q E.drained l = andb (heldBy p (l .holder)) (ltb 0 (length (l .booked)))
-can p q (E.dropped n) l = andb (heldBy p (l .holder)) (leb n (length (l .booked)))
-can p q E.closed l = andb (heldBy p (l .holder)) (isNil (l .booked))
+unfoldable pub can : (party queue : ℕ) → Change → Lists → Bool
+can p q Change.None l = true
+can p q (Change.Offered t) l = eqb p q
+can p q Change.Accepted l = eqb p q
+can p q Change.Popped l = andb (eqb p q) (not (isNil (l .resting)))
+can p q (Change.Booked n) l = andb (not (isOpen (l .holder))) (andb (ltb 0 n) (leb n (length (l .resting))))
+can p q (Change.Landed n) l = andb (heldBy p (l .holder)) (leb n (length (l .booked)))
+can p q (Change.TakeLanded n) l = andb (heldBy p (l .holder)) (ltb n (length (l .booked)))
+can p q Change.Drained l = andb (heldBy p (l .holder)) (ltb 0 (length (l .booked)))
+can p q (Change.Dropped n) l = andb (heldBy p (l .holder)) (leb n (length (l .booked)))
+can p q Change.Closed l = andb (heldBy p (l .holder)) (isNil (l .booked))
 
 -- ---- a token in hand is handed out by the answer that names it
-
-abbrev pub named : Answer → List ℕ
-named A.pending = []
-named A.pushed = []
-named (A.full t) = []
-named (A.popped t) = t ∷ []
-named A.none = []
-named (A.extended k) = []
-named (A.stolen k) = []
-named (A.taken t k) = t ∷ []
-named (A.drain k) = []
-named (A.item t) = t ∷ []
-named A.done = []
-named A.closed = []
-named A.busy = []
-named A.empty = []
-named (A.spare k) = []
-named A.yes = []
-named A.no = []
 
 abbrev pub handOut : ℕ → List ℕ → Plain → Plain
 handOut p ts a = record { queue = a .queue; hand = update (a .hand) p (drop (length ts) (a .hand p)); out = a .out ++ ts; gone = a .gone }
@@ -190,8 +175,8 @@ pub data Replayed : Type 0 where
 
 abbrev pub replayEntry : (ℕ → Kind) → Entry → Plain → Replayed
 replayEntry ks (did e) a =
-    pick (can (e .party) (e .queue) (e .deed) (a .queue (e .queue))) (lists (does ks (e .party) (e .queue) (e .deed) a)) impossible
-replayEntry ks (said p r) a = pick (inFront (named r) (a .hand p)) (lists (handOut p (named r) a)) impossible
+    pick (can (e .party) (e .queue) (e .change) (a .queue (e .queue))) (lists (does ks (e .party) (e .queue) (e .change) a)) impossible
+replayEntry ks (said p r) a = pick (inFront (handedOut r) (a .hand p)) (lists (handOut p (handedOut r) a)) impossible
 
 abbrev pub replayFrom : (ℕ → Kind) → Entry → Replayed → Replayed
 replayFrom ks x impossible = impossible
@@ -204,19 +189,23 @@ replay ks (x ∷ xs) = replayFrom ks x (replay ks xs)
 
 -- ---- read off a machine
 
--- the n tokens from a position on
-unfoldable pub tokens : (capacity : ℕ) → List ℕ → (at n : ℕ) → List ℕ
-tokens cap slots at zero = []
-tokens cap slots at (suc n) = getD slots (at % cap) 0 ∷ tokens cap slots (suc at) n
+-- the token at a position; 0 where the capacity is no power of two below 2 ^ w
+abbrev pub tokenAt : ℕ → (capacity : ℕ) → List ℕ → (at : ℕ) → ℕ
+tokenAt w cap slots at = pick (powBelow w cap) (getD slots (slotOf cap at) 0) 0
+
+-- the n tokens from a position on; positions turn over
+unfoldable pub tokens : ℕ → (capacity : ℕ) → List ℕ → (at n : ℕ) → List ℕ
+tokens w cap slots at zero = []
+tokens w cap slots at (suc n) = tokenAt w cap slots at ∷ tokens w cap slots (plus w at 1) n
 
 -- the head that resting begins at: booked head (FIFO worker head)
 abbrev pub headOf : ℕ → Kind → Queue → ℕ
-headOf w lifo q = low w (q .packed)
-headOf w fifo q = high w (q .packed)
+headOf w Kind.Lifo q = low w (q .packed)
+headOf w Kind.Fifo q = high w (q .packed)
 
 abbrev pub tailOf : ℕ → Kind → Queue → ℕ
-tailOf w lifo q = minus w (q .count) (high w (q .packed))
-tailOf w fifo q = q .count
+tailOf w Kind.Lifo q = minus w (q .pushes) (high w (q .packed))
+tailOf w Kind.Fifo q = q .pushes
 
 abbrev pub slotsAt : Machine → List ℕ → ℕ → List ℕ
 slotsAt m xs q = stretch (baseOf q (m .queue)) (queueAt m q .capacity) xs
@@ -224,5 +213,5 @@ slotsAt m xs q = stretch (baseOf q (m .queue)) (queueAt m q .capacity) xs
 -- resting is booked head (FIFO worker head) up to tail
 unfoldable pub restingAt : ℕ → Machine → List ℕ → ℕ → List ℕ
 restingAt w m xs q =
-    tokens (queueAt m q .capacity) (slotsAt m xs q) (headOf w (queueAt m q .kind) (queueAt m q))
+    tokens w (queueAt m q .capacity) (slotsAt m xs q) (headOf w (queueAt m q .kind) (queueAt m q))
     (minus w (tailOf w (queueAt m q .kind) (queueAt m q)) (headOf w (queueAt m q .kind) (queueAt m q)))

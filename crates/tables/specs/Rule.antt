@@ -1,32 +1,20 @@
 -- Kinds, count rules and the marks that a step may carry.
 use Prim.Native.Nat.{ℕ, _/_}
-
-pub data Kind : Type 0 where
-  lifo : Kind
-  fifo : Kind
-
--- Count rules, for n seen. `given` is the number carried by the step that reads n.
-pub data Rule : Type 0 where
-  all : Rule
-  half : Rule
-  fixed : ℕ → Rule
-  given : Rule
-
--- What a step line says after the party: nothing, weak, given N (a number or a token), end.
-pub data Mark : Type 0 where
-  plain : Mark
-  weak : Mark
-  carry : ℕ → Mark
-  end : Mark
+use Rattle.tables.specs.declared.call.Mark.{Mark}
+use Rattle.tables.specs.declared.call.Mark.the-variants as Mark
+use Rattle.tables.specs.declared.call.Rule.{Rule}
+use Rattle.tables.specs.declared.call.Rule.the-variants as Rule
+use Rattle.tables.specs.declared.state.Kind.{Kind}
+use Rattle.tables.specs.declared.state.Kind.the-variants as Kind
 
 abbrev pub carried : Mark → ℕ
-carried plain = 0
-carried weak = 0
-carried (carry n) = n
-carried end = 0
+carried Mark.Plain = 0
+carried Mark.Weak = 0
+carried (Mark.Carry n) = n
+carried Mark.End = 0
 
 abbrev pub ruled : Rule → Mark → ℕ → ℕ
-ruled all m n = n
-ruled half m n = n / 2
-ruled (fixed k) m n = k
-ruled given m n = carried m
+ruled Rule.All m n = n
+ruled Rule.Half m n = n / 2
+ruled (Rule.Fixed k) m n = k
+ruled Rule.Given m n = carried m

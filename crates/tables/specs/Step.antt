@@ -5,17 +5,37 @@ use mathlib.Core.Bool.{Bool, true, false, not}
 use mathlib.Core.List.{List, [], _∷_}
 use lib.ListN.{length, getD, set}
 use lib.Dec.{ltb, leb, eqb}
+use Rattle.tables.specs.declared.access.Access.{Access}
 use Rattle.words.specs.Word.{pick, orb, powBelow, packed, capacityOf}
-use Rattle.tables.specs.Rule.{Kind, lifo, fifo, Mark, plain, weak, carry, end}
-use Rattle.tables.specs.Call.{Call}
-use Rattle.tables.specs.Place.{Place}
-use Rattle.tables.specs.Machine.{Queue, Drain, Party, Machine, idleParty, zeroQueue, partyAt, queueAt, baseOf, stretch, restretched}
-use Rattle.tables.specs.Access.{Access, Accessed, perform, isCas}
-use Rattle.tables.specs.Answer as A
-use Rattle.tables.specs.Answer.{Answer, isPending}
-use Rattle.tables.specs.Effect as E
-use Rattle.tables.specs.Effect.{Deed, isNothing, drops, Effect}
-use Rattle.tables.specs.Row.{Sight, Next, Row, Whose, mine, theirs}
+use Rattle.tables.specs.declared.access.Context.{Context}
+use Rattle.tables.specs.declared.access.Next.{Next}
+use Rattle.tables.specs.declared.access.Whose.{Whose}
+use Rattle.tables.specs.declared.access.Whose.the-variants as Whose
+use Rattle.tables.specs.declared.answer.Answer.{Answer}
+use Rattle.tables.specs.declared.answer.Answer.the-variants as Answer
+use Rattle.tables.specs.declared.answer.Change.{Change}
+use Rattle.tables.specs.declared.answer.Change.the-variants as Change
+use Rattle.tables.specs.declared.answer.Effect.{Effect}
+use Rattle.tables.specs.declared.answer.Effects.{Effects}
+use Rattle.tables.specs.declared.answer.Reply.{Reply}
+use Rattle.tables.specs.declared.call.Act.{Act}
+use Rattle.tables.specs.declared.call.Act.the-variants as Act
+use Rattle.tables.specs.declared.call.Call.{Call}
+use Rattle.tables.specs.declared.call.Mark.{Mark}
+use Rattle.tables.specs.declared.call.Mark.the-variants as Mark
+use Rattle.tables.specs.declared.state.Acted.{Acted}
+use Rattle.tables.specs.declared.state.Kind.{Kind}
+use Rattle.tables.specs.declared.state.Kind.the-variants as Kind
+use Rattle.tables.specs.declared.state.Machine.{Machine}
+use Rattle.tables.specs.declared.state.Opened.{Opened}
+use Rattle.tables.specs.declared.state.Party.{Party}
+use Rattle.tables.specs.declared.state.Queue.{Queue}
+use Rattle.tables.specs.declared.place.Place.{Place}
+use Rattle.tables.specs.Machine.{idleParty, zeroQueue, partyAt, queueAt, baseOf, stretch, restretched}
+use Rattle.tables.specs.Access.{Accessed, perform, isCas}
+use Rattle.tables.specs.Answer.{isPending}
+use Rattle.tables.specs.Effect.{isNone, dropsOf, noEffect, effectOf}
+use Rattle.tables.specs.Row.{Row}
 use Rattle.tables.specs.Tables.{rowOf, isIdle, sourceOf, hasPlace, wishOf, wishes, markFits, start, callSource}
 
 abbrev pub andb : Bool → Bool → Bool
@@ -30,12 +50,9 @@ pub record Outcome : Type 0 where
   pub effect : Effect
   pub refusal : ℕ
 
-abbrev pub noEffect : Effect
-noEffect = record { party = 0; queue = 0; deed = E.nothing }
-
 -- A refusal returns its number and the record as it came, no effect; no item changes.
 abbrev pub refused : Machine → List ℕ → ℕ → Outcome
-refused m xs k = record { machine = m; items = xs; answer = A.pending; effect = noEffect; refusal = k }
+refused m xs k = record { machine = m; items = xs; answer = Answer.Pending; effect = noEffect; refusal = k }
 
 -- ---- refusal 1: the record test, among the record's own parties and queues
 
@@ -60,13 +77,13 @@ sound w most m lent =
 
 -- LIFO: push count p, pop count 0, both heads p; FIFO: all p
 abbrev pub openQueue : ℕ → Kind → (request position : ℕ) → Queue
-openQueue w lifo r p = record { kind = lifo; capacity = capacityOf w r; count = p; packed = packed w 0 p; done = p }
-openQueue w fifo r p = record { kind = fifo; capacity = capacityOf w r; count = p; packed = packed w p p; done = 0 }
+openQueue w Kind.Lifo r p = record { kind = Kind.Lifo; capacity = capacityOf w r; pushes = p; packed = packed w 0 p; completed = p }
+openQueue w Kind.Fifo r p = record { kind = Kind.Fifo; capacity = capacityOf w r; pushes = p; packed = packed w p p; completed = 0 }
 
 -- the first n queues opened, in a list of closed ones
 unfoldable pub openTo : ℕ → List Kind → (requests positions : List ℕ) → ℕ → List Queue → List Queue
 openTo w ks rs ps zero l = l
-openTo w ks rs ps (suc i) l = set (openTo w ks rs ps i l) i (openQueue w (getD ks i lifo) (getD rs i 0) (getD ps i 0))
+openTo w ks rs ps (suc i) l = set (openTo w ks rs ps i l) i (openQueue w (getD ks i Kind.Lifo) (getD rs i 0) (getD ps i 0))
 
 -- one of the first n requests is above 2 ^ (w - 1)
 unfoldable pub overTo : ℕ → (requests : List ℕ) → ℕ → Bool
@@ -75,19 +92,20 @@ overTo w rs (suc i) = orb (overTo w rs i) (ltb (2 ^ (w - 1)) (getD rs i 0))
 
 unfoldable pub closedQueues : ℕ → List Kind → List Queue
 closedQueues zero ks = []
-closedQueues (suc n) [] = zeroQueue lifo ∷ closedQueues n []
+closedQueues (suc n) [] = zeroQueue Kind.Lifo ∷ closedQueues n []
 closedQueues (suc n) (k ∷ ks) = zeroQueue k ∷ closedQueues n ks
 
 unfoldable pub idleParties : ℕ → List Party
 idleParties zero = []
 idleParties (suc n) = idleParty ∷ idleParties n
 
+-- a machine is all LIFO or all FIFO: the kind asked, for each queue
+unfoldable pub everyKind : ℕ → Kind → List Kind
+everyKind zero k = []
+everyKind (suc n) k = k ∷ everyKind n k
+
 abbrev pub tables : ℕ → ℕ → List Queue → Machine
 tables most n qs = record { parties = n; party = idleParties most; queue = qs }
-
-pub record Opened : Type 0 where
-  pub machine : Machine
-  pub refusal : ℕ
 
 abbrev pub openQueues : ℕ → ℕ → List Kind → (parties : ℕ) → (requests positions : List ℕ) → List Queue
 openQueues w most ks n rs ps = openTo w ks rs ps n (closedQueues most ks)
@@ -112,15 +130,17 @@ withParty m who p = record { parties = m .parties; party = set (m .party) who p;
 abbrev pub begun : Machine → ℕ → Call → Machine
 begun m who c = withParty m who (record { place = start (kindAt m who) c; drain = partyAt m who .drain })
 
+-- in the order 1, 2, 3, 5: `ok` is the record test's result
+abbrev pub beginOrder : (ok : Bool) → (parties who : ℕ) → Place → Call → ℕ
+beginOrder ok n who p c = pick ok (pick (ltb who n) (pick (isIdle p) (pick (ltb (callSource who c) n) 0 5) 3) 2) 1
+
 unfoldable pub beginRefusal : ℕ → ℕ → Machine → (lent : ℕ) → ℕ → Call → ℕ
-beginRefusal w most m lent who c =
-    pick (sound w most m lent)
-    (pick (ltb who (m .parties)) (pick (isIdle (partyAt m who .place)) (pick (ltb (callSource who c) (m .parties)) 0 5) 3) 2) 1
+beginRefusal w most m lent who c = beginOrder (sound w most m lent) (m .parties) who (partyAt m who .place) c
 
 unfoldable pub begin : ℕ → ℕ → Machine → List ℕ → ℕ → Call → Outcome
 begin w most m xs who c =
     pick (eqb (beginRefusal w most m (length xs) who c) 0)
-    (record { machine = begun m who c; items = xs; answer = A.pending; effect = noEffect; refusal = 0 })
+    (record { machine = begun m who c; items = xs; answer = Answer.Pending; effect = noEffect; refusal = 0 })
     (refused m xs (beginRefusal w most m (length xs) who c))
 
 -- ---- step
@@ -131,8 +151,8 @@ placeAt m who = partyAt m who .place
 abbrev pub sourceAt : Machine → ℕ → ℕ
 sourceAt m who = sourceOf who (placeAt m who)
 
-abbrev pub sightOf : Machine → ℕ → Mark → Sight
-sightOf m who mark = record {
+abbrev pub contextOf : Machine → ℕ → Mark → Context
+contextOf m who mark = record {
   kind = kindAt m who;
   capacity = queueAt m who .capacity;
   from = kindAt m (sourceAt m who);
@@ -141,21 +161,21 @@ sightOf m who mark = record {
 }
 
 abbrev pub rowAt : ℕ → Machine → ℕ → Mark → Row
-rowAt w m who mark = rowOf w (sightOf m who mark) (placeAt m who)
+rowAt w m who mark = rowOf w (contextOf m who mark) (placeAt m who)
 
 abbrev pub site : Whose → (own source : ℕ) → ℕ
-site mine own source = own
-site theirs own source = source
+site Whose.Own own source = own
+site Whose.Source own source = source
 
 -- the queue that the step's access is to
 abbrev pub siteAt : ℕ → Machine → ℕ → Mark → ℕ
 siteAt w m who mark = site (rowAt w m who mark .whose) who (sourceAt m who)
 
 abbrev pub isWeak : Mark → Bool
-isWeak plain = false
-isWeak weak = true
-isWeak (carry n) = false
-isWeak end = false
+isWeak Mark.Plain = false
+isWeak Mark.Weak = true
+isWeak (Mark.Carry n) = false
+isWeak Mark.End = false
 
 abbrev pub accessAt : ℕ → Machine → List ℕ → ℕ → Mark → Accessed
 accessAt w m xs who mark =
@@ -165,19 +185,6 @@ accessAt w m xs who mark =
 
 abbrev pub nextAt : ℕ → Machine → List ℕ → ℕ → Mark → Next
 nextAt w m xs who mark = rowAt w m who mark .after (accessAt w m xs who mark .seen)
-
--- An effect names its party and queue (landed: the source).
-abbrev pub effectOf : (party queue source : ℕ) → Deed → Effect
-effectOf p q s E.nothing = noEffect
-effectOf p q s (E.offered t) = record { party = p; queue = q; deed = E.offered t }
-effectOf p q s E.accepted = record { party = p; queue = q; deed = E.accepted }
-effectOf p q s E.popped = record { party = p; queue = q; deed = E.popped }
-effectOf p q s (E.booked k) = record { party = p; queue = q; deed = E.booked k }
-effectOf p q s (E.landed k) = record { party = p; queue = s; deed = E.landed k }
-effectOf p q s (E.landedLast k) = record { party = p; queue = s; deed = E.landedLast k }
-effectOf p q s E.drained = record { party = p; queue = q; deed = E.drained }
-effectOf p q s (E.dropped k) = record { party = p; queue = q; deed = E.dropped k }
-effectOf p q s E.closed = record { party = p; queue = q; deed = E.closed }
 
 -- one place of each table is changed
 abbrev pub stored : Machine → (who site : ℕ) → Next → Queue → Machine
@@ -195,17 +202,21 @@ taken w m xs who mark = record {
       restretched (baseOf (siteAt w m who mark) (m .queue)) (queueAt m (siteAt w m who mark) .capacity)
       (accessAt w m xs who mark .slots) xs;
   answer = nextAt w m xs who mark .answer;
-  effect = effectOf who (siteAt w m who mark) (sourceAt m who) (nextAt w m xs who mark .deed);
+  effect = effectOf who (siteAt w m who mark) (sourceAt m who) (nextAt w m xs who mark .change);
   refusal = 0;
 }
 
--- no call; a mark that does not fit
-abbrev pub markRefusal : ℕ → Sight → Place → ℕ
-markRefusal w s p = pick (isIdle p) 4 (pick (markFits (wishOf p) (isCas (rowOf w s p .access)) (s .mark)) 0 6)
+-- no call; a mark that does not fit the access of the place's row
+abbrev pub markRefusal : Access → Mark → Place → ℕ
+markRefusal a mark p = pick (isIdle p) 4 (pick (markFits (wishOf p) (isCas a) mark) 0 6)
+
+-- in the order 1, 2, 4, 6
+abbrev pub stepOrder : (ok : Bool) → (parties who : ℕ) → Access → Mark → Place → ℕ
+stepOrder ok n who a mark p = pick ok (pick (ltb who n) (markRefusal a mark p) 2) 1
 
 unfoldable pub stepRefusal : ℕ → ℕ → Machine → (lent : ℕ) → ℕ → Mark → ℕ
 stepRefusal w most m lent who mark =
-    pick (sound w most m lent) (pick (ltb who (m .parties)) (markRefusal w (sightOf m who mark) (placeAt m who)) 2) 1
+    stepOrder (sound w most m lent) (m .parties) who (rowAt w m who mark .access) mark (placeAt m who)
 
 unfoldable pub step : ℕ → ℕ → Machine → List ℕ → ℕ → Mark → Outcome
 step w most m xs who mark =
@@ -224,10 +235,14 @@ pub record Alone : Type 0 where
   pub refusal : ℕ
 
 -- dropped ones in a row as one, counted
+abbrev pub joins : Effect → Effect → Bool
+joins x e = andb (ltb 0 (dropsOf (x .change))) (ltb 0 (dropsOf (e .change)))
+
+abbrev pub merged : Effect → Effect → Effect
+merged x e = record { party = e .party; queue = e .queue; change = Change.Dropped (dropsOf (x .change) + dropsOf (e .change)) }
+
 abbrev pub joined : Effect → Effect → List Effect
-joined x e =
-    pick (andb (ltb 0 (drops (x .deed))) (ltb 0 (drops (e .deed))))
-    (record { party = e .party; queue = e .queue; deed = E.dropped (drops (x .deed) + drops (e .deed)) } ∷ []) (x ∷ e ∷ [])
+joined x e = pick (joins x e) (merged x e ∷ []) (x ∷ e ∷ [])
 
 unfoldable pub appended : List Effect → Effect → List Effect
 appended [] e = e ∷ []
@@ -235,11 +250,19 @@ appended (x ∷ []) e = joined x e
 appended (x ∷ y ∷ l) e = x ∷ appended (y ∷ l) e
 
 abbrev pub noted : List Effect → Effect → List Effect
-noted l e = pick (isNothing (e .deed)) l (appended l e)
+noted l e = pick (isNone (e .change)) l (appended l e)
 
 -- it stops at an answer, or before a step that needs a number or end
+abbrev pub stopsAt : Answer → Place → Bool
+stopsAt a p = orb (not (isPending a)) (wishes (wishOf p))
+
+-- the loop, over whatever is stepped: until it stops, or the budget is spent
+unfoldable pub until : {S : Type 0} → (S → Bool) → (S → S) → (budget : ℕ) → S → S
+until stopped next zero r = r
+until stopped next (suc k) r = pick (stopped r) r (until stopped next k (next r))
+
 abbrev pub stops : ℕ → Alone → Bool
-stops who r = orb (not (isPending (r .answer))) (wishes (wishOf (placeAt (r .machine) who)))
+stops who r = stopsAt (r .answer) (placeAt (r .machine) who)
 
 abbrev pub onward : Alone → Outcome → Alone
 onward r o = record {
@@ -251,18 +274,55 @@ onward r o = record {
   refusal = 0;
 }
 
-unfoldable pub runs : ℕ → ℕ → (budget : ℕ) → Alone → Alone
-runs w who zero r = r
-runs w who (suc k) r = pick (stops who r) r (runs w who k (onward r (taken w (r .machine) (r .items) who plain)))
+abbrev pub runs : ℕ → ℕ → (budget : ℕ) → Alone → Alone
+runs w who budget r = until (stops who) (λ x. onward x (taken w (x .machine) (x .items) who Mark.Plain)) budget r
 
 abbrev pub still : Machine → List ℕ → ℕ → Alone
-still m xs k = record { machine = m; items = xs; answer = A.pending; effects = []; steps = 0; refusal = k }
+still m xs k = record { machine = m; items = xs; answer = Answer.Pending; effects = []; steps = 0; refusal = k }
+
+-- in the order 1, 2, 4
+abbrev pub aloneOrder : (ok : Bool) → (parties who : ℕ) → Place → ℕ
+aloneOrder ok n who p = pick ok (pick (ltb who n) (pick (isIdle p) 4 0) 2) 1
 
 unfoldable pub aloneRefusal : ℕ → ℕ → Machine → (lent : ℕ) → ℕ → ℕ
-aloneRefusal w most m lent who =
-    pick (sound w most m lent) (pick (ltb who (m .parties)) (pick (isIdle (placeAt m who)) 4 0) 2) 1
+aloneRefusal w most m lent who = aloneOrder (sound w most m lent) (m .parties) who (placeAt m who)
 
 unfoldable pub alone : ℕ → ℕ → Machine → List ℕ → ℕ → (budget : ℕ) → Alone
 alone w most m xs who budget =
     pick (eqb (aloneRefusal w most m (length xs) who) 0) (runs w who budget (still m xs 0))
     (still m xs (aloneRefusal w most m (length xs) who))
+
+-- ---- begin, step and run alone as one
+
+-- What an act leaves: the machine, the items, and what is said.
+pub record Result : Type 0 where
+  pub machine : Machine
+  pub items : List ℕ
+  pub reply : Reply
+
+-- what the code returns, with the items that were lent to it
+abbrev pub resultOf : Acted → List ℕ → Result
+resultOf r xs = record { machine = r .machine; items = xs; reply = r .reply }
+
+-- at most three effects (proofs/Effects.antt, alone-few)
+abbrev pub threeEffects : List Effect → Effects
+threeEffects l = record { count = length l; list = getD l 0 noEffect ∷ getD l 1 noEffect ∷ getD l 2 noEffect ∷ [] }
+
+abbrev pub ofOutcome : Outcome → Result
+ofOutcome o = record {
+  machine = o .machine;
+  items = o .items;
+  reply = record { answer = o .answer; effects = threeEffects (noted [] (o .effect)); steps = 0; refusal = o .refusal };
+}
+
+abbrev pub ofAlone : Alone → Result
+ofAlone r = record {
+  machine = r .machine;
+  items = r .items;
+  reply = record { answer = r .answer; effects = threeEffects (r .effects); steps = r .steps; refusal = r .refusal };
+}
+
+abbrev pub acted : ℕ → ℕ → Machine → List ℕ → ℕ → Act → Result
+acted w most m xs who (Act.Begin c) = ofOutcome (begin w most m xs who c)
+acted w most m xs who (Act.Step k) = ofOutcome (step w most m xs who k)
+acted w most m xs who (Act.Alone n) = ofAlone (alone w most m xs who n)

@@ -2,246 +2,267 @@
 use Prim.Native.Nat.{ℕ}
 use mathlib.Core.Bool.{Bool, true, false}
 use Rattle.words.specs.Word.{pick, packed, high}
-use Rattle.tables.specs.Rule.{Kind, lifo, fifo, Rule, all, half, fixed, given, Mark, plain, weak, carry, end}
-use Rattle.tables.specs.Call as C
-use Rattle.tables.specs.Call.{Call}
-use Rattle.tables.specs.Errand as G
-use Rattle.tables.specs.Errand.{Haul, steals, takes, Errand, Job, Goal, Ending}
-use Rattle.tables.specs.LifoPlace as L
-use Rattle.tables.specs.LifoPlace.{LifoPlace}
-use Rattle.tables.specs.FifoPlace as F
-use Rattle.tables.specs.FifoPlace.{FifoPlace}
-use Rattle.tables.specs.Place as P
-use Rattle.tables.specs.Place.{Place, OwnPlace, BookPlace, MovePlace, ClosePlace}
-use Rattle.tables.specs.Access.{Seen, touch, loadPacked, storeDone, cas}
-use Rattle.tables.specs.Answer as A
-use Rattle.tables.specs.Effect as E
-use Rattle.tables.specs.Row.{Sight, Next, Row, own_then_, source_then_, on, ends}
+use Rattle.tables.specs.declared.access.Access.the-variants as Access
+use Rattle.tables.specs.declared.access.Context.{Context}
+use Rattle.tables.specs.declared.access.Next.{Next}
+use Rattle.tables.specs.declared.access.Seen.{Seen}
+use Rattle.tables.specs.declared.access.Wish.{Wish}
+use Rattle.tables.specs.declared.access.Wish.the-variants as Wish
+use Rattle.tables.specs.declared.answer.Answer.the-variants as Answer
+use Rattle.tables.specs.declared.answer.Change.the-variants as Change
+use Rattle.tables.specs.declared.call.Call.{Call}
+use Rattle.tables.specs.declared.call.Call.the-variants as Call
+use Rattle.tables.specs.declared.call.Mark.{Mark}
+use Rattle.tables.specs.declared.call.Mark.the-variants as Mark
+use Rattle.tables.specs.declared.call.Rule.{Rule}
+use Rattle.tables.specs.declared.call.Rule.the-variants as Rule
+use Rattle.tables.specs.declared.state.Kind.{Kind}
+use Rattle.tables.specs.declared.state.Kind.the-variants as Kind
+use Rattle.tables.specs.declared.place.BookPlace.{BookPlace}
+use Rattle.tables.specs.declared.place.BookPlace.the-variants as BookPlace
+use Rattle.tables.specs.declared.place.BookingCall.{BookingCall}
+use Rattle.tables.specs.declared.place.BookingCall.the-variants as BookingCall
+use Rattle.tables.specs.declared.place.ClosePlace.{ClosePlace}
+use Rattle.tables.specs.declared.place.ClosePlace.the-variants as ClosePlace
+use Rattle.tables.specs.declared.place.ClosingCall.{ClosingCall}
+use Rattle.tables.specs.declared.place.ClosingCall.the-variants as ClosingCall
+use Rattle.tables.specs.declared.place.FifoPlace.{FifoPlace}
+use Rattle.tables.specs.declared.place.FifoPlace.the-variants as FifoPlace
+use Rattle.tables.specs.declared.place.LifoPlace.{LifoPlace}
+use Rattle.tables.specs.declared.place.LifoPlace.the-variants as LifoPlace
+use Rattle.tables.specs.declared.place.MovePlace.{MovePlace}
+use Rattle.tables.specs.declared.place.MovePlace.the-variants as MovePlace
+use Rattle.tables.specs.declared.place.OwnPlace.{OwnPlace}
+use Rattle.tables.specs.declared.place.OwnPlace.the-variants as OwnPlace
+use Rattle.tables.specs.declared.place.OwnerCall.the-variants as OwnerCall
+use Rattle.tables.specs.declared.place.Place.{Place}
+use Rattle.tables.specs.declared.place.Place.the-variants as Place
+use Rattle.tables.specs.declared.place.RoomCall.{RoomCall}
+use Rattle.tables.specs.declared.place.RoomCall.the-variants as RoomCall
+use Rattle.tables.specs.declared.place.Transfer.{Transfer}
+use Rattle.tables.specs.declared.place.Transfer.the-variants as Transfer
+use Rattle.tables.specs.declared.place.TransferCall.{TransferCall}
+use Rattle.tables.specs.Row.{Row, own_then_, source_then_, on, ends}
 use Rattle.tables.specs.Table.{booking, answerOf, ruleOf, ownRow, moveRow}
-use Rattle.tables.specs.LifoTable.{lifoRow, lifoPackedRow, lifoDoneRow, lifoCountRow, lifoCasRow}
+use Rattle.tables.specs.LifoTable.{lifoRow, lifoPackedRow, lifoCompletedRow, lifoPushesRow, lifoCasRow}
 use Rattle.tables.specs.FifoTable.{fifoRow, fifoPackedRow, fifoTailRow, fifoCasRow}
 
-abbrev pub bookRow : ℕ → Sight → Goal → BookPlace → Row
-bookRow w s g P.lifoPacked = lifoPackedRow s g
-bookRow w s g (P.lifoDone p) = lifoDoneRow w s g p
-bookRow w s g (P.lifoCount p d) = lifoCountRow w s g p d
-bookRow w s g (P.lifoCas p d k) = lifoCasRow w s g p d k
-bookRow w s g P.fifoPacked = fifoPackedRow w s g
-bookRow w s g (P.fifoTail p) = fifoTailRow w s g p
-bookRow w s g (P.fifoCas p k) = fifoCasRow w s g p k
+abbrev pub bookRow : ℕ → Context → BookingCall → BookPlace → Row
+bookRow w s g BookPlace.LifoPacked = lifoPackedRow s g
+bookRow w s g (BookPlace.LifoCompleted p) = lifoCompletedRow w s g p
+bookRow w s g (BookPlace.LifoPushes p d) = lifoPushesRow w s g p d
+bookRow w s g (BookPlace.LifoCas p d k) = lifoCasRow w s g p d k
+bookRow w s g BookPlace.FifoPacked = fifoPackedRow w s g
+bookRow w s g (BookPlace.FifoTail p) = fifoTailRow w s g p
+bookRow w s g (BookPlace.FifoCas p k) = fifoCasRow w s g p k
 
 -- LIFO: store completed head. FIFO: load packed, CAS (worker head, worker head), repeated from the CAS until it succeeds.
-abbrev pub wasClosed : Sight → Ending → Seen → Next
-wasClosed s e x = pick (x .ok) (ends s (answerOf e) E.closed) (on s (P.close e (P.casHeads (x .pair))) E.nothing)
+abbrev pub wasClosed : Context → ClosingCall → Seen → Next
+wasClosed s e x = pick (x .stored) (ends s (answerOf e) Change.Closed) (on s (Place.Close e (ClosePlace.CasHeads (x .packed))) Change.None)
 
-abbrev pub closeRow : ℕ → Sight → Ending → ClosePlace → Row
-closeRow w s e (P.storeDone head) = source storeDone head then λ x. ends s (answerOf e) E.closed
-closeRow w s e P.loadHeads = source loadPacked then λ x. on s (P.close e (P.casHeads (x .pair))) E.nothing
-closeRow w s e (P.casHeads p) = source cas p (packed w (high w p) (high w p)) then λ x. wasClosed s e x
+abbrev pub closeRow : ℕ → Context → ClosingCall → ClosePlace → Row
+closeRow w s e (ClosePlace.StoreCompleted head) = source Access.StoreCompleted head then λ x. ends s (answerOf e) Change.Closed
+closeRow w s e ClosePlace.LoadHeads = source Access.LoadPacked then λ x. on s (Place.Close e (ClosePlace.CasHeads (x .packed))) Change.None
+closeRow w s e (ClosePlace.CasHeads p) = source Access.Cas p (packed w (high w p) (high w p)) then λ x. wasClosed s e x
 
-abbrev pub rowOf : ℕ → Sight → Place → Row
-rowOf w s P.idle = own touch then λ x. ends s A.pending E.nothing
-rowOf w s (P.lifo p) = lifoRow w s p
-rowOf w s (P.fifo p) = fifoRow w s p
-rowOf w s (P.own p) = ownRow w s p
-rowOf w s (P.book g p) = bookRow w s g p
-rowOf w s (P.move p) = moveRow w s p
-rowOf w s (P.close e p) = closeRow w s e p
+abbrev pub rowOf : ℕ → Context → Place → Row
+rowOf w s Place.Idle = own Access.Touch then λ x. ends s Answer.Pending Change.None
+rowOf w s (Place.Lifo p) = lifoRow w s p
+rowOf w s (Place.Fifo p) = fifoRow w s p
+rowOf w s (Place.Own p) = ownRow w s p
+rowOf w s (Place.Book g p) = bookRow w s g p
+rowOf w s (Place.Move p) = moveRow w s p
+rowOf w s (Place.Close e p) = closeRow w s e p
 
 abbrev pub isIdle : Place → Bool
-isIdle P.idle = true
-isIdle (P.lifo p) = false
-isIdle (P.fifo p) = false
-isIdle (P.own p) = false
-isIdle (P.book g p) = false
-isIdle (P.move p) = false
-isIdle (P.close e p) = false
+isIdle Place.Idle = true
+isIdle (Place.Lifo p) = false
+isIdle (Place.Fifo p) = false
+isIdle (Place.Own p) = false
+isIdle (Place.Book g p) = false
+isIdle (Place.Move p) = false
+isIdle (Place.Close e p) = false
 
 -- ---- the source that a place names; its party's own number where it names none
 
-abbrev pub jobSource : ℕ → Job → ℕ
-jobSource who (G.fills f) = who
-jobSource who (G.brings e) = e .source
+abbrev pub roomSource : ℕ → RoomCall → ℕ
+roomSource who (RoomCall.Owner f) = who
+roomSource who (RoomCall.Transfer e) = e .source
 
 abbrev pub lifoSource : ℕ → LifoPlace → ℕ
-lifoSource who (L.loadCount j) = jobSource who j
-lifoSource who (L.loadPacked j n) = jobSource who j
-lifoSource who (L.loadDone j n p) = jobSource who j
-lifoSource who L.popPacked = who
-lifoSource who (L.popCount p) = who
-lifoSource who (L.popCas p t) = who
-lifoSource who L.emptyCount = who
-lifoSource who (L.emptyPacked n) = who
+lifoSource who (LifoPlace.LoadPushes j) = roomSource who j
+lifoSource who (LifoPlace.LoadPacked j n) = roomSource who j
+lifoSource who (LifoPlace.LoadCompleted j n p) = roomSource who j
+lifoSource who LifoPlace.PopPacked = who
+lifoSource who (LifoPlace.PopPushes p) = who
+lifoSource who (LifoPlace.PopCas p t) = who
+lifoSource who LifoPlace.EmptyPushes = who
+lifoSource who (LifoPlace.EmptyPacked n) = who
 
 abbrev pub fifoSource : ℕ → FifoPlace → ℕ
-fifoSource who (F.loadPacked f) = who
-fifoSource who (F.loadTail f p) = who
-fifoSource who (F.destTail e) = e .source
-fifoSource who (F.destPacked e t) = e .source
-fifoSource who F.popPacked = who
-fifoSource who (F.popTail p) = who
-fifoSource who (F.popCas p) = who
-fifoSource who F.emptyPacked = who
-fifoSource who (F.emptyTail p) = who
+fifoSource who (FifoPlace.LoadPacked f) = who
+fifoSource who (FifoPlace.LoadTail f p) = who
+fifoSource who (FifoPlace.DestTail e) = e .source
+fifoSource who (FifoPlace.DestPacked e t) = e .source
+fifoSource who FifoPlace.PopPacked = who
+fifoSource who (FifoPlace.PopTail p) = who
+fifoSource who (FifoPlace.PopCas p) = who
+fifoSource who FifoPlace.EmptyPacked = who
+fifoSource who (FifoPlace.EmptyTail p) = who
 
-abbrev pub goalSource : ℕ → Goal → ℕ
-goalSource who (G.haul e d) = e .source
-goalSource who (G.drain r) = who
+abbrev pub bookingSource : ℕ → BookingCall → ℕ
+bookingSource who (BookingCall.Transfer e d) = e .source
+bookingSource who (BookingCall.Drain r) = who
 
 abbrev pub moveSource : MovePlace → ℕ
-moveSource (P.readSlot t j) = t .source
-moveSource (P.writeSlot t j x) = t .source
-moveSource (P.land t x) = t .source
+moveSource (MovePlace.ReadSlot t j) = t .source
+moveSource (MovePlace.WriteSlot t j x) = t .source
+moveSource (MovePlace.Land t x) = t .source
 
-abbrev pub endingSource : ℕ → Ending → ℕ
-endingSource who (G.stolen s k) = s
-endingSource who (G.taken s t k) = s
-endingSource who (G.item t) = who
-endingSource who G.dropped = who
+abbrev pub closingSource : ℕ → ClosingCall → ℕ
+closingSource who (ClosingCall.Steal s k) = s
+closingSource who (ClosingCall.Take s t k) = s
+closingSource who (ClosingCall.Next t) = who
+closingSource who ClosingCall.Drop = who
 
 abbrev pub sourceOf : ℕ → Place → ℕ
-sourceOf who P.idle = who
-sourceOf who (P.lifo p) = lifoSource who p
-sourceOf who (P.fifo p) = fifoSource who p
-sourceOf who (P.own p) = who
-sourceOf who (P.book g p) = goalSource who g
-sourceOf who (P.move p) = moveSource p
-sourceOf who (P.close e p) = endingSource who e
+sourceOf who Place.Idle = who
+sourceOf who (Place.Lifo p) = lifoSource who p
+sourceOf who (Place.Fifo p) = fifoSource who p
+sourceOf who (Place.Own p) = who
+sourceOf who (Place.Book g p) = bookingSource who g
+sourceOf who (Place.Move p) = moveSource p
+sourceOf who (Place.Close e p) = closingSource who e
 
 -- ---- the places that a kind's tables have
 
 abbrev pub isKind : Kind → Kind → Bool
-isKind lifo lifo = true
-isKind lifo fifo = false
-isKind fifo lifo = false
-isKind fifo fifo = true
+isKind Kind.Lifo Kind.Lifo = true
+isKind Kind.Lifo Kind.Fifo = false
+isKind Kind.Fifo Kind.Lifo = false
+isKind Kind.Fifo Kind.Fifo = true
 
 abbrev pub bookKind : BookPlace → Kind
-bookKind P.lifoPacked = lifo
-bookKind (P.lifoDone p) = lifo
-bookKind (P.lifoCount p d) = lifo
-bookKind (P.lifoCas p d k) = lifo
-bookKind P.fifoPacked = fifo
-bookKind (P.fifoTail p) = fifo
-bookKind (P.fifoCas p k) = fifo
+bookKind BookPlace.LifoPacked = Kind.Lifo
+bookKind (BookPlace.LifoCompleted p) = Kind.Lifo
+bookKind (BookPlace.LifoPushes p d) = Kind.Lifo
+bookKind (BookPlace.LifoCas p d k) = Kind.Lifo
+bookKind BookPlace.FifoPacked = Kind.Fifo
+bookKind (BookPlace.FifoTail p) = Kind.Fifo
+bookKind (BookPlace.FifoCas p k) = Kind.Fifo
 
 abbrev pub closeKind : ClosePlace → Kind
-closeKind (P.storeDone head) = lifo
-closeKind P.loadHeads = fifo
-closeKind (P.casHeads p) = fifo
+closeKind (ClosePlace.StoreCompleted head) = Kind.Lifo
+closeKind ClosePlace.LoadHeads = Kind.Fifo
+closeKind (ClosePlace.CasHeads p) = Kind.Fifo
 
 -- by the own queue's kind, and the source's
 abbrev pub hasPlace : Kind → Kind → Place → Bool
-hasPlace kind from P.idle = true
-hasPlace kind from (P.lifo p) = isKind kind lifo
-hasPlace kind from (P.fifo p) = isKind kind fifo
-hasPlace kind from (P.own p) = true
-hasPlace kind from (P.book g p) = isKind from (bookKind p)
-hasPlace kind from (P.move p) = true
-hasPlace kind from (P.close e p) = isKind from (closeKind p)
+hasPlace kind from Place.Idle = true
+hasPlace kind from (Place.Lifo p) = isKind kind Kind.Lifo
+hasPlace kind from (Place.Fifo p) = isKind kind Kind.Fifo
+hasPlace kind from (Place.Own p) = true
+hasPlace kind from (Place.Book g p) = isKind from (bookKind p)
+hasPlace kind from (Place.Move p) = true
+hasPlace kind from (Place.Close e p) = isKind from (closeKind p)
 
 -- ---- what a step wants: nothing, a number, or a token or end
 
-pub data Wish : Type 0 where
-  nothing : Wish
-  number : Wish
-  token : Wish
-
 abbrev pub ruleWish : Rule → Wish
-ruleWish all = nothing
-ruleWish half = nothing
-ruleWish (fixed k) = nothing
-ruleWish given = number
+ruleWish Rule.All = Wish.Nothing
+ruleWish Rule.Half = Wish.Nothing
+ruleWish (Rule.Fixed k) = Wish.Nothing
+ruleWish Rule.Given = Wish.Number
 
-abbrev pub bookWish : Goal → BookPlace → Wish
-bookWish g P.lifoPacked = nothing
-bookWish g (P.lifoDone p) = nothing
-bookWish g (P.lifoCount p d) = ruleWish (ruleOf g)
-bookWish g (P.lifoCas p d k) = nothing
-bookWish g P.fifoPacked = nothing
-bookWish g (P.fifoTail p) = ruleWish (ruleOf g)
-bookWish g (P.fifoCas p k) = nothing
+abbrev pub bookWish : BookingCall → BookPlace → Wish
+bookWish g BookPlace.LifoPacked = Wish.Nothing
+bookWish g (BookPlace.LifoCompleted p) = Wish.Nothing
+bookWish g (BookPlace.LifoPushes p d) = ruleWish (ruleOf g)
+bookWish g (BookPlace.LifoCas p d k) = Wish.Nothing
+bookWish g BookPlace.FifoPacked = Wish.Nothing
+bookWish g (BookPlace.FifoTail p) = ruleWish (ruleOf g)
+bookWish g (BookPlace.FifoCas p k) = Wish.Nothing
 
 abbrev pub ownWish : OwnPlace → Wish
-ownWish (P.pushWrite t n tail) = nothing
-ownWish (P.pushStore n) = nothing
-ownWish (P.extendMore c tail limit j) = token
-ownWish (P.extendStore c tail j) = nothing
-ownWish (P.popRead at) = nothing
-ownWish P.nextItem = nothing
-ownWish P.dropItem = nothing
+ownWish (OwnPlace.PushWrite t n tail) = Wish.Nothing
+ownWish (OwnPlace.PushStore n) = Wish.Nothing
+ownWish (OwnPlace.ExtendMore c tail limit j) = Wish.Token
+ownWish (OwnPlace.ExtendStore c tail j) = Wish.Nothing
+ownWish (OwnPlace.PopRead at) = Wish.Nothing
+ownWish OwnPlace.NextItem = Wish.Nothing
+ownWish OwnPlace.DropItem = Wish.Nothing
 
 abbrev pub wishOf : Place → Wish
-wishOf P.idle = nothing
-wishOf (P.lifo p) = nothing
-wishOf (P.fifo p) = nothing
-wishOf (P.own p) = ownWish p
-wishOf (P.book g p) = bookWish g p
-wishOf (P.move p) = nothing
-wishOf (P.close e p) = nothing
+wishOf Place.Idle = Wish.Nothing
+wishOf (Place.Lifo p) = Wish.Nothing
+wishOf (Place.Fifo p) = Wish.Nothing
+wishOf (Place.Own p) = ownWish p
+wishOf (Place.Book g p) = bookWish g p
+wishOf (Place.Move p) = Wish.Nothing
+wishOf (Place.Close e p) = Wish.Nothing
 
 abbrev pub wishes : Wish → Bool
-wishes nothing = false
-wishes number = true
-wishes token = true
+wishes Wish.Nothing = false
+wishes Wish.Number = true
+wishes Wish.Token = true
 
 -- the mark fits: weak where the step is a CAS; a number or end where that one is wanted, and only there
 abbrev pub markFits : Wish → (isCas : Bool) → Mark → Bool
-markFits nothing c plain = true
-markFits nothing c weak = c
-markFits nothing c (carry n) = false
-markFits nothing c end = false
-markFits number c plain = false
-markFits number c weak = false
-markFits number c (carry n) = true
-markFits number c end = false
-markFits token c plain = false
-markFits token c weak = false
-markFits token c (carry n) = true
-markFits token c end = true
+markFits Wish.Nothing c Mark.Plain = true
+markFits Wish.Nothing c Mark.Weak = c
+markFits Wish.Nothing c (Mark.Carry n) = false
+markFits Wish.Nothing c Mark.End = false
+markFits Wish.Number c Mark.Plain = false
+markFits Wish.Number c Mark.Weak = false
+markFits Wish.Number c (Mark.Carry n) = true
+markFits Wish.Number c Mark.End = false
+markFits Wish.Token c Mark.Plain = false
+markFits Wish.Token c Mark.Weak = false
+markFits Wish.Token c (Mark.Carry n) = true
+markFits Wish.Token c Mark.End = true
 
 -- ---- a call's first place, by the own queue's kind
 
-abbrev pub errand : ℕ → Rule → Haul → Errand
-errand s r h = record { source = s; rule = r; haul = h }
+abbrev pub transferCall : ℕ → Rule → Transfer → TransferCall
+transferCall s r h = record { source = s; rule = r; transfer = h }
 
 abbrev pub startLifo : Call → Place
-startLifo (C.push t) = P.lifo (L.loadCount (G.fills (G.push t)))
-startLifo C.pop = P.lifo L.popPacked
-startLifo C.extend = P.lifo (L.loadCount (G.fills G.extend))
-startLifo (C.drain r) = P.book (G.drain r) (booking lifo)
-startLifo C.next = P.own P.nextItem
-startLifo C.drop = P.own P.dropItem
-startLifo (C.steal s r) = P.lifo (L.loadCount (G.brings (errand s r steals)))
-startLifo (C.take s r) = P.lifo (L.loadCount (G.brings (errand s r takes)))
-startLifo C.spare = P.lifo (L.loadCount (G.fills G.spare))
-startLifo C.empty = P.lifo L.emptyCount
+startLifo (Call.Push t) = Place.Lifo (LifoPlace.LoadPushes (RoomCall.Owner (OwnerCall.Push t)))
+startLifo Call.Pop = Place.Lifo LifoPlace.PopPacked
+startLifo Call.Extend = Place.Lifo (LifoPlace.LoadPushes (RoomCall.Owner OwnerCall.Extend))
+startLifo (Call.Drain r) = Place.Book (BookingCall.Drain r) (booking Kind.Lifo)
+startLifo Call.Next = Place.Own OwnPlace.NextItem
+startLifo Call.Drop = Place.Own OwnPlace.DropItem
+startLifo (Call.Steal s r) = Place.Lifo (LifoPlace.LoadPushes (RoomCall.Transfer (transferCall s r Transfer.Steal)))
+startLifo (Call.Take s r) = Place.Lifo (LifoPlace.LoadPushes (RoomCall.Transfer (transferCall s r Transfer.Take)))
+startLifo Call.Spare = Place.Lifo (LifoPlace.LoadPushes (RoomCall.Owner OwnerCall.Spare))
+startLifo Call.Empty = Place.Lifo LifoPlace.EmptyPushes
 
 abbrev pub startFifo : Call → Place
-startFifo (C.push t) = P.fifo (F.loadPacked (G.push t))
-startFifo C.pop = P.fifo F.popPacked
-startFifo C.extend = P.fifo (F.loadPacked G.extend)
-startFifo (C.drain r) = P.book (G.drain r) (booking fifo)
-startFifo C.next = P.own P.nextItem
-startFifo C.drop = P.own P.dropItem
-startFifo (C.steal s r) = P.fifo (F.destTail (errand s r steals))
-startFifo (C.take s r) = P.fifo (F.destTail (errand s r takes))
-startFifo C.spare = P.fifo (F.loadPacked G.spare)
-startFifo C.empty = P.fifo F.emptyPacked
+startFifo (Call.Push t) = Place.Fifo (FifoPlace.LoadPacked (OwnerCall.Push t))
+startFifo Call.Pop = Place.Fifo FifoPlace.PopPacked
+startFifo Call.Extend = Place.Fifo (FifoPlace.LoadPacked OwnerCall.Extend)
+startFifo (Call.Drain r) = Place.Book (BookingCall.Drain r) (booking Kind.Fifo)
+startFifo Call.Next = Place.Own OwnPlace.NextItem
+startFifo Call.Drop = Place.Own OwnPlace.DropItem
+startFifo (Call.Steal s r) = Place.Fifo (FifoPlace.DestTail (transferCall s r Transfer.Steal))
+startFifo (Call.Take s r) = Place.Fifo (FifoPlace.DestTail (transferCall s r Transfer.Take))
+startFifo Call.Spare = Place.Fifo (FifoPlace.LoadPacked OwnerCall.Spare)
+startFifo Call.Empty = Place.Fifo FifoPlace.EmptyPacked
 
 abbrev pub start : Kind → Call → Place
-start lifo c = startLifo c
-start fifo c = startFifo c
+start Kind.Lifo c = startLifo c
+start Kind.Fifo c = startFifo c
 
 -- the source that a call names; its party's own number where it names none
 abbrev pub callSource : ℕ → Call → ℕ
-callSource who (C.push t) = who
-callSource who C.pop = who
-callSource who C.extend = who
-callSource who (C.drain r) = who
-callSource who C.next = who
-callSource who C.drop = who
-callSource who (C.steal s r) = s
-callSource who (C.take s r) = s
-callSource who C.spare = who
-callSource who C.empty = who
+callSource who (Call.Push t) = who
+callSource who Call.Pop = who
+callSource who Call.Extend = who
+callSource who (Call.Drain r) = who
+callSource who Call.Next = who
+callSource who Call.Drop = who
+callSource who (Call.Steal s r) = s
+callSource who (Call.Take s r) = s
+callSource who Call.Spare = who
+callSource who Call.Empty = who

@@ -12,11 +12,12 @@ use lib.Seq.{getD-set-same, getD-set-other}
 use lib.Dec.{ltb, leb, eqb}
 use borrow.Author.Tests.{ltb-true, ltb-false, leb-true, lt-ltb, le-ltb, le-leb, eqb-true}
 use Rattle.words.specs.Word.{pick, orb, plus}
-use Rattle.tables.specs.Rule.{Kind}
+use Rattle.tables.specs.declared.state.Kind.{Kind}
 use Rattle.tables.specs.Machine.{baseOf}
 use Rattle.tables.specs.Step.{andb, overTo, openQueues, openRefusal}
-use Rattle.machine.specs.View.{everyKind}
-use Rattle.text.specs.Session.{Session, machineSession, queueAsked}
+use Rattle.tables.specs.Step.{everyKind}
+use Rattle.text.specs.declared.session.Session.{Session}
+use Rattle.text.specs.Session.{machineSession, queueAsked}
 
 -- what holds while queue lines are read
 pub record Asking (w most : ℕ) (s : Session) : Type 0 where

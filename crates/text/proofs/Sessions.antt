@@ -3,8 +3,9 @@ use Prim.Native.Nat.{ℕ}
 use mathlib.Core.Path.{_≡_, refl, sym, ap, subst, _∙_}
 use mathlib.Core.List.{List, []}
 use native.Mathlib.Omega.{arith}
-use Rattle.tables.specs.Machine.{Machine}
-use Rattle.text.specs.Session.{Session, Said, Turn, Told, Took, stays}
+use Rattle.tables.specs.declared.state.Machine.{Machine}
+use Rattle.text.specs.declared.session.Session.{Session}
+use Rattle.text.specs.Session.{Said, Turn, Told, Took, stays}
 use Rattle.text.proofs.Writing.{wrote-none}
 
 pub told-none : {x s : Session} (l : List ℕ) (at : ℕ) → x ≡ s → Told (record { session = s; text = [] }) x l at l at

@@ -6,19 +6,18 @@ use mathlib.Core.Option.{Option, none, some, Option·map}
 use lib.ListN.{length, drop}
 use lib.Dec.{eqb, ltb, leb}
 use Rattle.words.specs.Word.{pick}
-use Rattle.tables.specs.Rule as R
-use Rattle.tables.specs.Rule.{Kind, Rule, Mark}
-use Rattle.tables.specs.Call as C
-use Rattle.tables.specs.Call.{Call}
+use Rattle.tables.specs.declared.call.Call.{Call}
+use Rattle.tables.specs.declared.call.Call.the-variants as Call
+use Rattle.tables.specs.declared.call.Mark.{Mark}
+use Rattle.tables.specs.declared.call.Mark.the-variants as Mark
+use Rattle.tables.specs.declared.call.Rule.{Rule}
+use Rattle.tables.specs.declared.call.Rule.the-variants as Rule
+use Rattle.tables.specs.declared.state.Kind.{Kind}
+use Rattle.tables.specs.declared.state.Kind.the-variants as Kind
+use Rattle.text.specs.declared.Line.{Line}
+use Rattle.text.specs.declared.Line.the-variants as Line
 use Rattle.text.specs.Ascii.{ascii, same}
 use Rattle.text.specs.Number.{numberOf}
-
-pub data Line : Type 0 where
-  machine : Kind → (parties : ℕ) → Line
-  queue : (request position : ℕ) → Line
-  begin : (party : ℕ) → Call → Line
-  step : (party : ℕ) → Mark → Line
-  malformed : Line
 
 -- ---- fields
 
@@ -107,10 +106,10 @@ lastNumber [] = none
 lastNumber (n ∷ fs) = pick (ended fs) (n .number) none
 
 abbrev pub plainRule : (Word → Bool) → Option Rule
-plainRule is = pick (is all·) (some R.all) (pick (is half·) (some R.half) (pick (is given·) (some R.given) none))
+plainRule is = pick (is all·) (some Rule.All) (pick (is half·) (some Rule.Half) (pick (is given·) (some Rule.Given) none))
 
 abbrev pub fixedRule : List Field → Option Rule
-fixedRule fs = Option·map R.fixed (lastNumber fs)
+fixedRule fs = Option·map Rule.Fixed (lastNumber fs)
 
 abbrev pub ruleOf : List Field → Option Rule
 ruleOf [] = none
@@ -135,22 +134,22 @@ aimOf (s ∷ fs) = both (s .number) (λ source. aimed source (ruleOf fs))
 
 unfoldable pub plainCall : (Word → Bool) → Option Call
 plainCall is =
-    pick (is pop·) (some C.pop)
-    (pick (is extend·) (some C.extend)
-    (pick (is next·) (some C.next)
-    (pick (is drop·) (some C.drop) (pick (is spare·) (some C.spare) (pick (is empty·) (some C.empty) none)))))
+    pick (is pop·) (some Call.Pop)
+    (pick (is extend·) (some Call.Extend)
+    (pick (is next·) (some Call.Next)
+    (pick (is drop·) (some Call.Drop) (pick (is spare·) (some Call.Spare) (pick (is empty·) (some Call.Empty) none)))))
 
 abbrev pub pushCall : Option ℕ → Option Call
-pushCall t = Option·map C.push t
+pushCall t = Option·map Call.Push t
 
 abbrev pub drainCall : Option Rule → Option Call
-drainCall r = Option·map C.drain r
+drainCall r = Option·map Call.Drain r
 
 abbrev pub stealCall : Option Aim → Option Call
-stealCall a = Option·map (λ aim. C.steal (aim .source) (aim .rule)) a
+stealCall a = Option·map (λ aim. Call.Steal (aim .source) (aim .rule)) a
 
 abbrev pub takeCall : Option Aim → Option Call
-takeCall a = Option·map (λ aim. C.take (aim .source) (aim .rule)) a
+takeCall a = Option·map (λ aim. Call.Take (aim .source) (aim .rule)) a
 
 abbrev pub callOf : List Field → Option Call
 callOf [] = none
@@ -161,53 +160,53 @@ callOf (c ∷ fs) =
     (pick (c .is take·) (takeCall (aimOf fs)) (pick (ended fs) (plainCall (c .is)) none))))
 
 abbrev pub plainMark : (Word → Bool) → Option Mark
-plainMark is = pick (is weak·) (some R.weak) (pick (is end·) (some R.end) none)
+plainMark is = pick (is weak·) (some Mark.Weak) (pick (is end·) (some Mark.End) none)
 
 abbrev pub givenMark : Option ℕ → Option Mark
-givenMark n = Option·map R.carry n
+givenMark n = Option·map Mark.Carry n
 
 abbrev pub markOf : List Field → Option Mark
-markOf [] = some R.plain
+markOf [] = some Mark.Plain
 markOf (m ∷ fs) = pick (m .is given·) (givenMark (lastNumber fs)) (pick (ended fs) (plainMark (m .is)) none)
 
 -- what was read, or malformed
 abbrev pub read : {A : Type 0} → Option A → (A → Line) → Line
-read none line = malformed
+read none line = Line.Malformed
 read (some a) line = line a
 
 abbrev pub kindOf : (Word → Bool) → Option Kind
-kindOf is = pick (is lifo·) (some R.lifo) (pick (is fifo·) (some R.fifo) none)
+kindOf is = pick (is lifo·) (some Kind.Lifo) (pick (is fifo·) (some Kind.Fifo) none)
 
 abbrev pub machineOf : Option Kind → Option ℕ → Line
-machineOf kind parties = read kind (λ k. read parties (machine k))
+machineOf kind parties = read kind (λ k. read parties (Line.Machine k))
 
 abbrev pub machineLine : List Field → Line
-machineLine [] = malformed
+machineLine [] = Line.Malformed
 machineLine (k ∷ fs) = machineOf (kindOf (k .is)) (lastNumber fs)
 
 -- a position has w bits
 abbrev pub queueOf : ℕ → ℕ → Option ℕ → Line
-queueOf w request position = read position (λ p. pick (ltb p (2 ^ w)) (queue request p) malformed)
+queueOf w request position = read position (λ p. pick (ltb p (2 ^ w)) (Line.Queue request p) Line.Malformed)
 
 abbrev pub queueLine : ℕ → List Field → Line
-queueLine w [] = malformed
+queueLine w [] = Line.Malformed
 queueLine w (r ∷ fs) = read (r .number) (λ request. queueOf w request (lastNumber fs))
 
 abbrev pub beginLine : List Field → Line
-beginLine [] = malformed
-beginLine (p ∷ fs) = read (p .number) (λ party. read (callOf fs) (begin party))
+beginLine [] = Line.Malformed
+beginLine (p ∷ fs) = read (p .number) (λ party. read (callOf fs) (Line.Begin party))
 
 abbrev pub stepLine : List Field → Line
-stepLine [] = malformed
-stepLine (p ∷ fs) = read (p .number) (λ party. read (markOf fs) (step party))
+stepLine [] = Line.Malformed
+stepLine (p ∷ fs) = read (p .number) (λ party. read (markOf fs) (Line.Step party))
 
 abbrev pub lineOf : ℕ → List Field → Line
-lineOf w [] = malformed
+lineOf w [] = Line.Malformed
 lineOf w (l ∷ fs) =
     pick (l .is step·) (stepLine fs)
     (pick (l .is begin·) (beginLine fs)
-    (pick (l .is queue·) (queueLine w fs) (pick (l .is machine·) (machineLine fs) malformed)))
+    (pick (l .is queue·) (queueLine w fs) (pick (l .is machine·) (machineLine fs) Line.Malformed)))
 
 -- a line, its newline apart
 unfoldable pub readOf : ℕ → List ℕ → Line
-readOf w s = pick (leb (length s) 120) (lineOf w (fields s)) malformed
+readOf w s = pick (leb (length s) 120) (lineOf w (fields s)) Line.Malformed

@@ -6,56 +6,47 @@ use mathlib.Core.List.{List, [], _∷_}
 use lib.ListN.{length, set}
 use lib.Dec.{eqb, ltb, leb}
 use Rattle.words.specs.Word.{pick, plus}
-use Rattle.tables.specs.Rule.{Kind, lifo}
-use Rattle.tables.specs.Machine.{Machine}
-use Rattle.tables.specs.Answer.{Answer, isPending}
-use Rattle.tables.specs.Step.{andb, Opened, opening}
-use Rattle.machine.specs.View.{everyKind}
-use Rattle.machine.specs.Act.{Acted, acted, begins, steps}
-use Rattle.text.specs.Line as L
-use Rattle.text.specs.Line.{Line, readOf}
+use Rattle.tables.specs.declared.answer.Answer.{Answer}
+use Rattle.tables.specs.declared.state.Kind.{Kind}
+use Rattle.tables.specs.declared.state.Kind.the-variants as Kind
+use Rattle.tables.specs.declared.state.Machine.{Machine}
+use Rattle.tables.specs.Answer.{isPending}
+use Rattle.tables.specs.declared.call.Act.the-variants as Act
+use Rattle.tables.specs.declared.state.Opened.{Opened}
+use Rattle.tables.specs.Step.{andb, everyKind, opening, Result, acted}
+use Rattle.text.specs.declared.Line.{Line}
+use Rattle.text.specs.declared.Line.the-variants as Line
+use Rattle.text.specs.declared.session.Session.{Session}
+use Rattle.text.specs.declared.session.Stage.{Stage}
+use Rattle.text.specs.declared.session.Stage.the-variants as Stage
+use Rattle.text.specs.Line.{readOf}
 use Rattle.text.specs.Write.{Wrote, answerOf, refusedOf}
 
--- what is wanted next: the machine line; a queue line; begin and step lines; nothing more, since the opening was refused
-pub data Stage : Type 0 where
-  machines : Stage
-  queues : Stage
-  runs : Stage
-  over : Stage
+abbrev pub wantsMachine : Stage → Bool
+wantsMachine Stage.MachineLine = true
+wantsMachine Stage.QueueLines = false
+wantsMachine Stage.Running = false
+wantsMachine Stage.Over = false
 
-abbrev pub isMachines : Stage → Bool
-isMachines machines = true
-isMachines queues = false
-isMachines runs = false
-isMachines over = false
+abbrev pub wantsQueue : Stage → Bool
+wantsQueue Stage.MachineLine = false
+wantsQueue Stage.QueueLines = true
+wantsQueue Stage.Running = false
+wantsQueue Stage.Over = false
 
-abbrev pub isQueues : Stage → Bool
-isQueues machines = false
-isQueues queues = true
-isQueues runs = false
-isQueues over = false
-
-abbrev pub isRuns : Stage → Bool
-isRuns machines = false
-isRuns queues = false
-isRuns runs = true
-isRuns over = false
+abbrev pub isRunning : Stage → Bool
+isRunning Stage.MachineLine = false
+isRunning Stage.QueueLines = false
+isRunning Stage.Running = true
+isRunning Stage.Over = false
 
 abbrev pub isOver : Stage → Bool
-isOver machines = false
-isOver queues = false
-isOver runs = false
-isOver over = true
+isOver Stage.MachineLine = false
+isOver Stage.QueueLines = false
+isOver Stage.Running = false
+isOver Stage.Over = true
 
--- the lines so far, and what the opening lines asked for; both counts have 64 bits
-pub record Session : Type 0 where
-  pub line : ℕ
-  pub stage : Stage
-  pub kind : Kind
-  pub parties : ℕ
-  pub asked : ℕ
-  pub requests : List ℕ
-  pub positions : List ℕ
+-- ---- the session; the line count and how many queues were asked for have 64 bits
 
 -- what a line leaves of the session, and what it prints
 pub record Said : Type 0 where
@@ -66,6 +57,9 @@ pub record State : Type 0 where
   pub session : Session
   pub machine : Machine
   pub items : List ℕ
+
+abbrev pub stateOf : Session → Machine → List ℕ → State
+stateOf s m xs = record { session = s; machine = m; items = xs }
 
 pub record Turn : Type 0 where
   pub state : State
@@ -99,22 +93,22 @@ zeros (suc n) = 0 ∷ zeros n
 
 -- before the first line
 unfoldable pub started : (most : ℕ) → Session
-started most = record { line = 0; stage = machines; kind = lifo; parties = 0; asked = 0; requests = zeros most; positions = zeros most }
+started most = record { line = 0; stage = Stage.MachineLine; kind = Kind.Lifo; parties = 0; asked = 0; requests = zeros most; positions = zeros most }
 
 -- ---- refusals
 
 -- up to the last queue line a refusal ends the run bare
 abbrev pub ends : Session → (code : ℕ) → Said
-ends s code = record { session = atStage over s; text = refusedOf (s .line) code }
+ends s code = record { session = atStage Stage.Over s; text = refusedOf (s .line) code }
 
 abbrev pub refuses : Session → (code : ℕ) → Said
 refuses s code = record { session = s; text = refusedOf (s .line) code }
 
 abbrev pub misplacedAt : Stage → Session → Said
-misplacedAt machines s = ends s 9
-misplacedAt queues s = ends s 9
-misplacedAt runs s = refuses s 9
-misplacedAt over s = record { session = s; text = [] }
+misplacedAt Stage.MachineLine s = ends s 9
+misplacedAt Stage.QueueLines s = ends s 9
+misplacedAt Stage.Running s = refuses s 9
+misplacedAt Stage.Over s = record { session = s; text = [] }
 
 -- a malformed or misplaced line
 abbrev pub misplaced : Session → Said
@@ -125,7 +119,7 @@ misplaced s = misplacedAt (s .stage) s
 abbrev pub machineSession : Session → Kind → (parties : ℕ) → Session
 machineSession s k n = record {
   line = s .line;
-  stage = queues;
+  stage = Stage.QueueLines;
   kind = k;
   parties = n;
   asked = 0;
@@ -139,7 +133,7 @@ machineAsked most s k n =
     pick (andb (ltb 0 n) (leb n most)) (record { session = machineSession s k n; text = [] }) (ends s 1)
 
 abbrev pub machineTaken : (most : ℕ) → Session → Kind → (parties : ℕ) → Said
-machineTaken most s k n = pick (isMachines (s .stage)) (machineAsked most s k n) (misplaced s)
+machineTaken most s k n = pick (wantsMachine (s .stage)) (machineAsked most s k n) (misplaced s)
 
 abbrev pub queueAsked : Session → (request position : ℕ) → Session
 queueAsked s r p = record {
@@ -159,7 +153,7 @@ stays m xs x = record { state = record { session = x .session; machine = m; item
 abbrev pub openedAs : Machine → (items : List ℕ) → Session → Opened → Turn
 openedAs m xs s o =
     pick (eqb (o .refusal) 0)
-    (record { state = record { session = atStage runs s; machine = o .machine; items = xs }; text = [] })
+    (record { state = record { session = atStage Stage.Running s; machine = o .machine; items = xs }; text = [] })
     (stays m xs (ends s (o .refusal)))
 
 -- 8 at the last queue line, the only refusal that `opening` has left there (proofs/Openings.antt)
@@ -174,7 +168,7 @@ queueRead w most m xs s =
 -- 7 at the first queue line whose request is too large
 abbrev pub queueTaken : (w most : ℕ) → Machine → (items : List ℕ) → Session → (request position : ℕ) → Turn
 queueTaken w most m xs s r p =
-    pick (isQueues (s .stage))
+    pick (wantsQueue (s .stage))
     (pick (leb r (2 ^ (w - 1))) (queueRead w most m xs (queueAsked s r p)) (stays m xs (ends s 7))) (stays m xs (misplaced s))
 
 -- ---- the run
@@ -183,23 +177,23 @@ queueTaken w most m xs s r p =
 abbrev pub outcomeText : (line party : ℕ) → Answer → (refusal : ℕ) → List ℕ
 outcomeText line p answer refusal = pick (eqb refusal 0) (pick (isPending answer) [] (answerOf p answer)) (refusedOf line refusal)
 
-abbrev pub acts : Machine → (items : List ℕ) → Session → (party : ℕ) → Acted → Turn
+abbrev pub acts : Machine → (items : List ℕ) → Session → (party : ℕ) → Result → Turn
 acts m xs s p r =
-    pick (isRuns (s .stage))
+    pick (isRunning (s .stage))
     (record {
       state = record { session = s; machine = r .machine; items = r .items };
-      text = outcomeText (s .line) p (r .answer) (r .refusal);
+      text = outcomeText (s .line) p (r .reply .answer) (r .reply .refusal);
     })
     (stays m xs (misplaced s))
 
 -- ---- any line
 
 unfoldable pub lineTaken : (w most : ℕ) → Machine → (items : List ℕ) → Session → Line → Turn
-lineTaken w most m xs s (L.machine k n) = stays m xs (machineTaken most s k n)
-lineTaken w most m xs s (L.queue r p) = queueTaken w most m xs s r p
-lineTaken w most m xs s (L.begin p c) = acts m xs s p (acted w most m xs p (begins c))
-lineTaken w most m xs s (L.step p k) = acts m xs s p (acted w most m xs p (steps k))
-lineTaken w most m xs s L.malformed = stays m xs (misplaced s)
+lineTaken w most m xs s (Line.Machine k n) = stays m xs (machineTaken most s k n)
+lineTaken w most m xs s (Line.Queue r p) = queueTaken w most m xs s r p
+lineTaken w most m xs s (Line.Begin p c) = acts m xs s p (acted w most m xs p (Act.Begin c))
+lineTaken w most m xs s (Line.Step p k) = acts m xs s p (acted w most m xs p (Act.Step k))
+lineTaken w most m xs s Line.Malformed = stays m xs (misplaced s)
 
 -- the next line of the input, any bytes
 unfoldable pub nextOf : (w most : ℕ) → Machine → (items : List ℕ) → Session → List ℕ → Turn

@@ -4,8 +4,9 @@ use mathlib.Core.Path.{_≡_}
 use mathlib.Core.List.{List, [], _∷_, _++_}
 use lib.ListN.{length}
 use lib.Seq.{sets}
-use Rattle.tables.specs.Answer as A
-use Rattle.tables.specs.Answer.{Answer}
+use Rattle.tables.specs.declared.answer.Answer.{Answer}
+use Rattle.tables.specs.declared.answer.Values.{Values}
+use Rattle.tables.specs.Answer.{answerRow, tokensOf, countsOf}
 use Rattle.text.specs.Ascii.{ascii}
 use Rattle.text.specs.Number.{decimalOf}
 
@@ -22,47 +23,13 @@ unfoldable pub fieldsFor : List ℕ → List ℕ
 fieldsFor [] = []
 fieldsFor (n ∷ ns) = fieldFor n ++ fieldsFor ns
 
-abbrev pub wordFor : Answer → List ℕ
-wordFor A.pending = []
-wordFor A.pushed = ascii "pushed"
-wordFor (A.full t) = ascii "full"
-wordFor (A.popped t) = ascii "popped"
-wordFor A.none = ascii "none"
-wordFor (A.extended k) = ascii "extended"
-wordFor (A.stolen k) = ascii "stolen"
-wordFor (A.taken t k) = ascii "taken"
-wordFor (A.drain k) = ascii "drain"
-wordFor (A.item t) = ascii "item"
-wordFor A.done = ascii "done"
-wordFor A.closed = ascii "closed"
-wordFor A.busy = ascii "busy"
-wordFor A.empty = ascii "empty"
-wordFor (A.spare k) = ascii "spare"
-wordFor A.yes = ascii "yes"
-wordFor A.no = ascii "no"
-
-abbrev pub numbersOf : Answer → List ℕ
-numbersOf A.pending = []
-numbersOf A.pushed = []
-numbersOf (A.full t) = t ∷ []
-numbersOf (A.popped t) = t ∷ []
-numbersOf A.none = []
-numbersOf (A.extended k) = k ∷ []
-numbersOf (A.stolen k) = k ∷ []
-numbersOf (A.taken t k) = t ∷ k ∷ []
-numbersOf (A.drain k) = k ∷ []
-numbersOf (A.item t) = t ∷ []
-numbersOf A.done = []
-numbersOf A.closed = []
-numbersOf A.busy = []
-numbersOf A.empty = []
-numbersOf (A.spare k) = k ∷ []
-numbersOf A.yes = []
-numbersOf A.no = []
+-- the values that an answer names, a token before a count
+abbrev pub numbersOf : Values → List ℕ
+numbersOf v = tokensOf v ++ countsOf v
 
 unfoldable pub answerOf : (party : ℕ) → Answer → List ℕ
 answerOf party a =
-    ascii "answer" ++ (fieldFor party ++ (ascii "\t" ++ (wordFor a ++ (fieldsFor (numbersOf a) ++ ascii "\n"))))
+    ascii "answer" ++ (fieldFor party ++ (ascii "\t" ++ (ascii (answerRow a .word) ++ (fieldsFor (numbersOf (answerRow a .values)) ++ ascii "\n"))))
 
 unfoldable pub refusedOf : (line code : ℕ) → List ℕ
 refusedOf line code = ascii "refused" ++ (fieldFor line ++ (fieldFor code ++ ascii "\n"))

@@ -1,7 +1,7 @@
 // The text side of the schedule program: its lines read, its answers written.
-use queue::Call;
-use queue::Kind;
-use queue::Mark;
+use tables::call::Call;
+use tables::call::Mark;
+use tables::state::Kind;
 
 pub mod read; // a line, from its bytes
 pub mod write; // what is printed, as bytes

@@ -8,10 +8,10 @@ ghost use Rattle.text.specs.Line.{fieldsFrom};
 ghost use Rattle.text.specs.Number.{numberOf};
 ghost use Rattle.text.specs.View as Vw;
 use super::Line;
-use queue::Call;
-use queue::Kind;
-use queue::Mark;
-use queue::Rule;
+use tables::call::Call;
+use tables::call::Mark;
+use tables::call::Rule;
+use tables::state::Kind;
 
 // A word is compared as one number: 1, then its bytes.
 const MACHINE: u64 = 0x1_6d_61_63_68_69_6e_65;
@@ -224,16 +224,12 @@ fn last_number(s: &[u8], at: usize) -> Num
 fn plain_rule(word: u64) -> Ruled
     ensures { λ r. ⌜ Vw.viewRuled r ≡ L.plainRule (Vw.codeIs word) ⌝ }
 {
-    if word == ALL {
-        return Ruled::Is(Rule::All);
+    match word {
+        ALL => Ruled::Is(Rule::All),
+        HALF => Ruled::Is(Rule::Half),
+        GIVEN => Ruled::Is(Rule::Given),
+        _ => Ruled::No,
     }
-    if word == HALF {
-        return Ruled::Is(Rule::Half);
-    }
-    if word == GIVEN {
-        return Ruled::Is(Rule::Given);
-    }
-    Ruled::No
 }
 
 fn fixed_rule(s: &[u8], at: usize) -> Ruled
@@ -295,25 +291,15 @@ fn aim_at(s: &[u8], at: usize) -> Aimed
 fn plain_call(word: u64) -> Called
     ensures { λ r. ⌜ Vw.viewCalled r ≡ L.plainCall (Vw.codeIs word) ⌝ }
 {
-    if word == POP {
-        return Called::Is(Call::Pop);
+    match word {
+        POP => Called::Is(Call::Pop),
+        EXTEND => Called::Is(Call::Extend),
+        NEXT => Called::Is(Call::Next),
+        DROP => Called::Is(Call::Drop),
+        SPARE => Called::Is(Call::Spare),
+        EMPTY => Called::Is(Call::Empty),
+        _ => Called::No,
     }
-    if word == EXTEND {
-        return Called::Is(Call::Extend);
-    }
-    if word == NEXT {
-        return Called::Is(Call::Next);
-    }
-    if word == DROP {
-        return Called::Is(Call::Drop);
-    }
-    if word == SPARE {
-        return Called::Is(Call::Spare);
-    }
-    if word == EMPTY {
-        return Called::Is(Call::Empty);
-    }
-    Called::No
 }
 
 fn push_call(token: Num) -> Called
@@ -364,25 +350,22 @@ fn call_at(s: &[u8], at: usize) -> Called
     ensures { λ r. ⌜ Vw.viewCalled r ≡ L.callOf (fieldsFrom (now (s .entry)) at) ⌝ }
 {
     let f = next_field(s, at);
-    if f.word == 0 {
+    let word = f.word;
+    if word == 0 {
         return Called::No;
     }
-    if f.word == PUSH {
-        return push_call(last_number(s, f.next));
-    }
-    if f.word == DRAIN {
-        return drain_call(rule_at(s, f.next));
-    }
-    if f.word == STEAL {
-        return steal_call(aim_at(s, f.next));
-    }
-    if f.word == TAKE {
-        return take_call(aim_at(s, f.next));
-    }
-    if is_end(s, f.next) {
-        plain_call(f.word)
-    } else {
-        Called::No
+    match word {
+        PUSH => push_call(last_number(s, f.next)),
+        DRAIN => drain_call(rule_at(s, f.next)),
+        STEAL => steal_call(aim_at(s, f.next)),
+        TAKE => take_call(aim_at(s, f.next)),
+        _ => {
+            if is_end(s, f.next) {
+                plain_call(word)
+            } else {
+                Called::No
+            }
+        }
     }
 }
 
@@ -391,13 +374,11 @@ fn call_at(s: &[u8], at: usize) -> Called
 fn plain_mark(word: u64) -> Marked
     ensures { λ r. ⌜ Vw.viewMarked r ≡ L.plainMark (Vw.codeIs word) ⌝ }
 {
-    if word == WEAK {
-        return Marked::Is(Mark::Weak);
+    match word {
+        WEAK => Marked::Is(Mark::Weak),
+        END => Marked::Is(Mark::End),
+        _ => Marked::No,
     }
-    if word == END {
-        return Marked::Is(Mark::End);
-    }
-    Marked::No
 }
 
 fn given_mark(n: Num) -> Marked
@@ -433,17 +414,15 @@ fn mark_at(s: &[u8], at: usize) -> Marked
 fn kind_of(word: u64) -> Kinded
     ensures { λ r. ⌜ Vw.viewKinded r ≡ L.kindOf (Vw.codeIs word) ⌝ }
 {
-    if word == LIFO {
-        return Kinded::Is(Kind::Lifo);
+    match word {
+        LIFO => Kinded::Is(Kind::Lifo),
+        FIFO => Kinded::Is(Kind::Fifo),
+        _ => Kinded::No,
     }
-    if word == FIFO {
-        return Kinded::Is(Kind::Fifo);
-    }
-    Kinded::No
 }
 
 fn machine_of(kinded: Kinded, parties: Num) -> Line
-    ensures { λ r. ⌜ Vw.viewLine r ≡ L.machineOf (Vw.viewKinded kinded) (Vw.viewNum parties) ⌝ }
+    ensures { λ r. ⌜ r ≡ L.machineOf (Vw.viewKinded kinded) (Vw.viewNum parties) ⌝ }
 {
     match kinded {
         Kinded::Is(kind) => {
@@ -459,7 +438,7 @@ fn machine_of(kinded: Kinded, parties: Num) -> Line
 
 fn machine_at(s: &[u8], at: usize) -> Line
     requires { ⌜ length (now s) ≤ 120 ⌝ }
-    ensures { λ r. ⌜ Vw.viewLine r ≡ L.machineLine (fieldsFrom (now (s .entry)) at) ⌝ }
+    ensures { λ r. ⌜ r ≡ L.machineLine (fieldsFrom (now (s .entry)) at) ⌝ }
 {
     let f = next_field(s, at);
     if f.word == 0 {
@@ -469,11 +448,11 @@ fn machine_at(s: &[u8], at: usize) -> Line
 }
 
 fn queue_of(request: u64, position: Num) -> Line
-    ensures { λ r. ⌜ Vw.viewLine r ≡ L.queueOf width request (Vw.viewNum position) ⌝ }
+    ensures { λ r. ⌜ r ≡ L.queueOf width request (Vw.viewNum position) ⌝ }
 {
     let value = position.value;
     if position.good {
-        if value < 4294967296 {
+        if words::is_word(value) {
             Line::Queue(request, value as u32)
         } else {
             Line::Malformed
@@ -485,7 +464,7 @@ fn queue_of(request: u64, position: Num) -> Line
 
 fn queue_at(s: &[u8], at: usize) -> Line
     requires { ⌜ length (now s) ≤ 120 ⌝ }
-    ensures { λ r. ⌜ Vw.viewLine r ≡ L.queueLine width (fieldsFrom (now (s .entry)) at) ⌝ }
+    ensures { λ r. ⌜ r ≡ L.queueLine width (fieldsFrom (now (s .entry)) at) ⌝ }
 {
     let f = next_field(s, at);
     if f.word == 0 {
@@ -499,7 +478,7 @@ fn queue_at(s: &[u8], at: usize) -> Line
 }
 
 fn begin_of(party: u64, called: Called) -> Line
-    ensures { λ r. ⌜ Vw.viewLine r ≡ L.read (Vw.viewCalled called) (L.begin party) ⌝ }
+    ensures { λ r. ⌜ r ≡ L.read (Vw.viewCalled called) (Line.Begin party) ⌝ }
 {
     match called {
         Called::Is(call) => Line::Begin(party, call),
@@ -509,7 +488,7 @@ fn begin_of(party: u64, called: Called) -> Line
 
 fn begin_at(s: &[u8], at: usize) -> Line
     requires { ⌜ length (now s) ≤ 120 ⌝ }
-    ensures { λ r. ⌜ Vw.viewLine r ≡ L.beginLine (fieldsFrom (now (s .entry)) at) ⌝ }
+    ensures { λ r. ⌜ r ≡ L.beginLine (fieldsFrom (now (s .entry)) at) ⌝ }
 {
     let f = next_field(s, at);
     if f.word == 0 {
@@ -523,7 +502,7 @@ fn begin_at(s: &[u8], at: usize) -> Line
 }
 
 fn step_of(party: u64, marked: Marked) -> Line
-    ensures { λ r. ⌜ Vw.viewLine r ≡ L.read (Vw.viewMarked marked) (L.step party) ⌝ }
+    ensures { λ r. ⌜ r ≡ L.read (Vw.viewMarked marked) (Line.Step party) ⌝ }
 {
     match marked {
         Marked::Is(mark) => Line::Step(party, mark),
@@ -533,7 +512,7 @@ fn step_of(party: u64, marked: Marked) -> Line
 
 fn step_at(s: &[u8], at: usize) -> Line
     requires { ⌜ length (now s) ≤ 120 ⌝ }
-    ensures { λ r. ⌜ Vw.viewLine r ≡ L.stepLine (fieldsFrom (now (s .entry)) at) ⌝ }
+    ensures { λ r. ⌜ r ≡ L.stepLine (fieldsFrom (now (s .entry)) at) ⌝ }
 {
     let f = next_field(s, at);
     if f.word == 0 {
@@ -548,30 +527,25 @@ fn step_at(s: &[u8], at: usize) -> Line
 
 fn line_at(s: &[u8]) -> Line
     requires { ⌜ length (now s) ≤ 120 ⌝ }
-    ensures { λ r. ⌜ Vw.viewLine r ≡ L.lineOf width (fieldsFrom (now (s .entry)) 0) ⌝ }
+    ensures { λ r. ⌜ r ≡ L.lineOf width (fieldsFrom (now (s .entry)) 0) ⌝ }
 {
     let f = next_field(s, 0);
-    if f.word == 0 {
+    let word = f.word;
+    if word == 0 {
         return Line::Malformed;
     }
-    if f.word == STEP {
-        return step_at(s, f.next);
+    match word {
+        STEP => step_at(s, f.next),
+        BEGIN => begin_at(s, f.next),
+        QUEUE => queue_at(s, f.next),
+        MACHINE => machine_at(s, f.next),
+        _ => Line::Malformed,
     }
-    if f.word == BEGIN {
-        return begin_at(s, f.next);
-    }
-    if f.word == QUEUE {
-        return queue_at(s, f.next);
-    }
-    if f.word == MACHINE {
-        return machine_at(s, f.next);
-    }
-    Line::Malformed
 }
 
 // A line, its newline apart: any bytes at all.
 pub fn read_line(s: &[u8]) -> Line
-    ensures { λ r. ⌜ Vw.viewLine r ≡ L.readOf width (now (s .entry)) ⌝ }
+    ensures { λ r. ⌜ r ≡ L.readOf width (now (s .entry)) ⌝ }
 {
     if s.len() <= LONGEST {
         line_at(s)

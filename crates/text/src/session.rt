@@ -1,33 +1,28 @@
 // A run of the schedule program: the session by value, the machine beside it, one call a line.
 ghost use mathlib.Core.Path.{_≡_};
-ghost use mathlib.Core.List.{List};
-ghost use Prim.Native.Nat.{ℕ, _+_, _≤_};
+ghost use Prim.Native.Nat.{_+_, _≤_};
 ghost use lib.ListN.{length, set};
 ghost use Rattle.words.specs.Edition.{width};
-ghost use Rattle.machine.specs.View.{most};
-ghost use Rattle.machine.specs.Act as Ac;
-ghost use Rattle.machine.specs.View as M;
-ghost use Rattle.tables.specs.Answer.{isPending};
-ghost use Rattle.queue.specs.View as Q;
-ghost use Rattle.text.specs.Line as L;
+ghost use Rattle.tables.specs.Machine.{most};
+ghost use Rattle.tables.specs.Step as St;
 ghost use Rattle.text.specs.Session as N;
 ghost use Rattle.text.specs.Session.{Told, Took};
 ghost use Rattle.text.specs.Write.{Wrote};
-ghost use Rattle.text.specs.View as Vw;
 use super::Line;
 use super::read;
 use super::write;
-use machine::Act;
-use machine::MOST;
-use machine::Machine;
-use queue::Answer;
-use queue::Kind;
+use tables::answer;
+use tables::answer::Answer;
+use tables::call::Act;
+use tables::state::Kind;
+use tables::state::MOST;
+use tables::state::Machine;
 
-// What is wanted next; Over: nothing, since the opening was refused.
+// What is wanted next: the machine line, a queue line, begin and step lines; Over: nothing, since the opening was refused.
 pub enum Stage {
-    Machines,
-    Queues,
-    Runs,
+    MachineLine,
+    QueueLines,
+    Running,
     Over,
 }
 
@@ -54,11 +49,11 @@ pub struct Taken {
 }
 
 pub fn start() -> Session
-    ensures { λ r. ⌜ Vw.viewSession r ≡ N.started most ⌝ }
+    ensures { λ r. ⌜ r ≡ N.started most ⌝ }
 {
     Session {
         line: 0,
-        stage: Stage::Machines,
+        stage: Stage::MachineLine,
         kind: Kind::Lifo,
         parties: 0,
         asked: 0,
@@ -68,7 +63,7 @@ pub fn start() -> Session
 }
 
 fn counted(s: Session) -> Session
-    ensures { λ r. ⌜ Vw.viewSession r ≡ N.counted (Vw.viewSession s) ⌝ }
+    ensures { λ r. ⌜ r ≡ N.counted s ⌝ }
 {
     let mut next = s;
     next.line = std::num::wrapping_add_u64(s.line, 1);
@@ -76,7 +71,7 @@ fn counted(s: Session) -> Session
 }
 
 fn at_stage(stage: Stage, s: Session) -> Session
-    ensures { λ r. ⌜ Vw.viewSession r ≡ N.atStage (Vw.viewStage stage) (Vw.viewSession s) ⌝ }
+    ensures { λ r. ⌜ r ≡ N.atStage stage s ⌝ }
 {
     let kind = s.kind;
     let requests = s.requests;
@@ -92,46 +87,46 @@ fn at_stage(stage: Stage, s: Session) -> Session
     }
 }
 
-fn is_machines(stage: Stage) -> bool
-    ensures { λ r. ⌜ r ≡ N.isMachines (Vw.viewStage stage) ⌝ }
+fn wants_machine(stage: Stage) -> bool
+    ensures { λ r. ⌜ r ≡ N.wantsMachine stage ⌝ }
 {
     match stage {
-        Stage::Machines => true,
-        Stage::Queues => false,
-        Stage::Runs => false,
+        Stage::MachineLine => true,
+        Stage::QueueLines => false,
+        Stage::Running => false,
         Stage::Over => false,
     }
 }
 
-fn is_queues(stage: Stage) -> bool
-    ensures { λ r. ⌜ r ≡ N.isQueues (Vw.viewStage stage) ⌝ }
+fn wants_queue(stage: Stage) -> bool
+    ensures { λ r. ⌜ r ≡ N.wantsQueue stage ⌝ }
 {
     match stage {
-        Stage::Machines => false,
-        Stage::Queues => true,
-        Stage::Runs => false,
+        Stage::MachineLine => false,
+        Stage::QueueLines => true,
+        Stage::Running => false,
         Stage::Over => false,
     }
 }
 
-pub fn is_runs(stage: Stage) -> bool
-    ensures { λ r. ⌜ r ≡ N.isRuns (Vw.viewStage stage) ⌝ }
+pub fn is_running(stage: Stage) -> bool
+    ensures { λ r. ⌜ r ≡ N.isRunning stage ⌝ }
 {
     match stage {
-        Stage::Machines => false,
-        Stage::Queues => false,
-        Stage::Runs => true,
+        Stage::MachineLine => false,
+        Stage::QueueLines => false,
+        Stage::Running => true,
         Stage::Over => false,
     }
 }
 
 pub fn is_over(stage: Stage) -> bool
-    ensures { λ r. ⌜ r ≡ N.isOver (Vw.viewStage stage) ⌝ }
+    ensures { λ r. ⌜ r ≡ N.isOver stage ⌝ }
 {
     match stage {
-        Stage::Machines => false,
-        Stage::Queues => false,
-        Stage::Runs => false,
+        Stage::MachineLine => false,
+        Stage::QueueLines => false,
+        Stage::Running => false,
         Stage::Over => true,
     }
 }
@@ -140,7 +135,7 @@ pub fn is_over(stage: Stage) -> bool
 
 fn ends(s: Session, code: u64, out: &mut [u8], at: usize) -> Said
     requires { ⌜ at + 128 ≤ length (now out) ⌝ }
-    ensures { λ r. ⌜ Told (N.ends (Vw.viewSession s) code) (Vw.viewSession (r .session)) (now (out .entry)) at (now (out .exit)) (r .put) ⌝ }
+    ensures { λ r. ⌜ Told (N.ends s code) (r .session) (now (out .entry)) at (now (out .exit)) (r .put) ⌝ }
 {
     let put = write::put_refused(out, at, s.line, code);
     Said {
@@ -151,13 +146,13 @@ fn ends(s: Session, code: u64, out: &mut [u8], at: usize) -> Said
 
 fn misplaced(s: Session, out: &mut [u8], at: usize) -> Said
     requires { ⌜ at + 128 ≤ length (now out) ⌝ }
-    ensures { λ r. ⌜ Told (N.misplaced (Vw.viewSession s)) (Vw.viewSession (r .session)) (now (out .entry)) at (now (out .exit)) (r .put) ⌝ }
+    ensures { λ r. ⌜ Told (N.misplaced s) (r .session) (now (out .entry)) at (now (out .exit)) (r .put) ⌝ }
 {
     let stage = s.stage;
     match stage {
-        Stage::Machines => ends(s, 9, out, at),
-        Stage::Queues => ends(s, 9, out, at),
-        Stage::Runs => {
+        Stage::MachineLine => ends(s, 9, out, at),
+        Stage::QueueLines => ends(s, 9, out, at),
+        Stage::Running => {
             let put = write::put_refused(out, at, s.line, 9);
             Said {
                 session: s,
@@ -174,13 +169,13 @@ fn misplaced(s: Session, out: &mut [u8], at: usize) -> Said
 // ---- the opening lines
 
 fn asked_machine(s: Session, kind: Kind, parties: u64) -> Session
-    ensures { λ r. ⌜ Vw.viewSession r ≡ N.machineSession (Vw.viewSession s) (Q.viewKind kind) parties ⌝ }
+    ensures { λ r. ⌜ r ≡ N.machineSession s kind parties ⌝ }
 {
     let requests = s.requests;
     let positions = s.positions;
     Session {
         line: s.line,
-        stage: Stage::Queues,
+        stage: Stage::QueueLines,
         kind: kind,
         parties: parties,
         asked: 0,
@@ -191,11 +186,11 @@ fn asked_machine(s: Session, kind: Kind, parties: u64) -> Session
 
 fn machine_asked(s: Session, kind: Kind, parties: u64, out: &mut [u8], at: usize) -> Said
     requires { ⌜ at + 128 ≤ length (now out) ⌝ }
-    ensures { λ r. ⌜ Told (N.machineAsked most (Vw.viewSession s) (Q.viewKind kind) parties) (Vw.viewSession (r .session))
+    ensures { λ r. ⌜ Told (N.machineAsked most s kind parties) (r .session)
         (now (out .entry)) at (now (out .exit)) (r .put) ⌝ }
 {
     if 0 < parties {
-        if parties <= 16 {
+        if parties <= (MOST as u64) {
             Said {
                 session: asked_machine(s, kind, parties),
                 put: at,
@@ -210,11 +205,11 @@ fn machine_asked(s: Session, kind: Kind, parties: u64, out: &mut [u8], at: usize
 
 fn machine_taken(s: Session, kind: Kind, parties: u64, out: &mut [u8], at: usize) -> Said
     requires { ⌜ at + 128 ≤ length (now out) ⌝ }
-    ensures { λ r. ⌜ Told (N.machineTaken most (Vw.viewSession s) (Q.viewKind kind) parties) (Vw.viewSession (r .session))
+    ensures { λ r. ⌜ Told (N.machineTaken most s kind parties) (r .session)
         (now (out .entry)) at (now (out .exit)) (r .put) ⌝ }
 {
     let stage = s.stage;
-    if is_machines(stage) {
+    if wants_machine(stage) {
         machine_asked(s, kind, parties, out, at)
     } else {
         misplaced(s, out, at)
@@ -225,7 +220,7 @@ fn set_request(l: [u64; MOST], i: u64, v: u64) -> [u64; MOST]
     ensures { λ r. ⌜ r ≡ set l i v ⌝ }
 {
     let mut next = l;
-    if i < 16 {
+    if i < (MOST as u64) {
         next[i as usize] = v;
     }
     next
@@ -235,14 +230,14 @@ fn set_position(l: [u32; MOST], i: u64, v: u32) -> [u32; MOST]
     ensures { λ r. ⌜ r ≡ set l i v ⌝ }
 {
     let mut next = l;
-    if i < 16 {
+    if i < (MOST as u64) {
         next[i as usize] = v;
     }
     next
 }
 
 fn queue_asked(s: Session, request: u64, position: u32) -> Session
-    ensures { λ r. ⌜ Vw.viewSession r ≡ N.queueAsked (Vw.viewSession s) request position ⌝ }
+    ensures { λ r. ⌜ r ≡ N.queueAsked s request position ⌝ }
 {
     let stage = s.stage;
     let kind = s.kind;
@@ -262,19 +257,19 @@ fn queue_asked(s: Session, request: u64, position: u32) -> Session
 }
 
 // All the queues are asked for: the opening judges them together.
-fn opens(s: Session, m: Machine, lent: u64, out: &mut [u8], at: usize) -> Taken
+fn opens(s: Session, m: Machine, items: &[u64], out: &mut [u8], at: usize) -> Taken
     requires { ⌜ at + 128 ≤ length (now out) ⌝ }
-    ensures { λ r. ⌜ ((xs : List ℕ) → length xs ≡ lent → Took (N.opens width most (M.viewMachine m) xs (Vw.viewSession s))
-        (Vw.stateOf (r .session) (r .machine) xs) (now (out .entry)) at (now (out .exit)) (r .put)) ⌝ }
+    ensures { λ r. ⌜ Took (N.opens width most m (now (items .entry)) s)
+        (N.stateOf (r .session) (r .machine) (now (items .entry))) (now (out .entry)) at (now (out .exit)) (r .put) ⌝ }
 {
     let kind = s.kind;
     let requests = s.requests;
     let positions = s.positions;
-    let opened = machine::open::open(kind, s.parties, requests, positions, lent);
+    let opened = machine::open::open(kind, s.parties, requests, positions, items);
     if opened.refusal == 0 {
         let machine = opened.machine;
         return Taken {
-            session: at_stage(Stage::Runs, s),
+            session: at_stage(Stage::Running, s),
             machine: machine,
             put: at,
         };
@@ -288,13 +283,13 @@ fn opens(s: Session, m: Machine, lent: u64, out: &mut [u8], at: usize) -> Taken
     }
 }
 
-fn queue_read(s: Session, m: Machine, lent: u64, out: &mut [u8], at: usize) -> Taken
+fn queue_read(s: Session, m: Machine, items: &[u64], out: &mut [u8], at: usize) -> Taken
     requires { ⌜ at + 128 ≤ length (now out) ⌝ }
-    ensures { λ r. ⌜ ((xs : List ℕ) → length xs ≡ lent → Took (N.queueRead width most (M.viewMachine m) xs (Vw.viewSession s))
-        (Vw.stateOf (r .session) (r .machine) xs) (now (out .entry)) at (now (out .exit)) (r .put)) ⌝ }
+    ensures { λ r. ⌜ Took (N.queueRead width most m (now (items .entry)) s)
+        (N.stateOf (r .session) (r .machine) (now (items .entry))) (now (out .entry)) at (now (out .exit)) (r .put) ⌝ }
 {
     if s.asked == s.parties {
-        opens(s, m, lent, out, at)
+        opens(s, m, items, out, at)
     } else {
         Taken {
             session: s,
@@ -307,20 +302,20 @@ fn queue_read(s: Session, m: Machine, lent: u64, out: &mut [u8], at: usize) -> T
 fn queue_taken(
     s: Session,
     m: Machine,
-    lent: u64,
+    items: &[u64],
     request: u64,
     position: u32,
     out: &mut [u8],
     at: usize,
 ) -> Taken
     requires { ⌜ at + 128 ≤ length (now out) ⌝ }
-    ensures { λ r. ⌜ ((xs : List ℕ) → length xs ≡ lent → Took (N.queueTaken width most (M.viewMachine m) xs (Vw.viewSession s) request position)
-        (Vw.stateOf (r .session) (r .machine) xs) (now (out .entry)) at (now (out .exit)) (r .put)) ⌝ }
+    ensures { λ r. ⌜ Took (N.queueTaken width most m (now (items .entry)) s request position)
+        (N.stateOf (r .session) (r .machine) (now (items .entry))) (now (out .entry)) at (now (out .exit)) (r .put) ⌝ }
 {
     let stage = s.stage;
-    if is_queues(stage) {
-        if request <= 2147483648 {
-            return queue_read(queue_asked(s, request, position), m, lent, out, at);
+    if wants_queue(stage) {
+        if request <= words::largest_capacity() {
+            return queue_read(queue_asked(s, request, position), m, items, out, at);
         }
         let said = ends(s, 7, out, at);
         let session = said.session;
@@ -343,11 +338,11 @@ fn queue_taken(
 
 fn put_outcome(out: &mut [u8], at: usize, line: u64, who: u64, answer: Answer, refusal: u8) -> usize
     requires { ⌜ at + 128 ≤ length (now out) ⌝ }
-    ensures { λ r. ⌜ Wrote (now (out .entry)) at (N.outcomeText line who (Q.viewAnswer answer) refusal) (now (out .exit)) r ⌝ }
+    ensures { λ r. ⌜ Wrote (now (out .entry)) at (N.outcomeText line who answer refusal) (now (out .exit)) r ⌝ }
     ensures { λ r. ⌜ r ≤ at + 128 ⌝ }
 {
     if refusal == 0 {
-        if machine::turn::is_pending(answer) {
+        if answer::is_pending(answer) {
             return at;
         }
         return write::put_answer(out, at, who, answer);
@@ -365,16 +360,17 @@ fn acts(
     at: usize,
 ) -> Taken
     requires { ⌜ at + 128 ≤ length (now out) ⌝ }
-    ensures { λ r. ⌜ Took (N.acts (M.viewMachine m) (now (items .entry)) (Vw.viewSession s) who
-        (Ac.acted width most (M.viewMachine m) (now (items .entry)) who (M.viewAct act)))
-        (Vw.stateOf (r .session) (r .machine) (now (items .exit))) (now (out .entry)) at (now (out .exit)) (r .put) ⌝ }
+    ensures { λ r. ⌜ Took (N.acts m (now (items .entry)) s who
+        (St.acted width most m (now (items .entry)) who act))
+        (N.stateOf (r .session) (r .machine) (now (items .exit))) (now (out .entry)) at (now (out .exit)) (r .put) ⌝ }
 {
     let stage = s.stage;
-    if is_runs(stage) {
+    if is_running(stage) {
         let acted = machine::apply(m, items, who, act);
-        let answer = acted.answer;
+        let reply = acted.reply;
+        let answer = reply.answer;
         let machine = acted.machine;
-        let put = put_outcome(out, at, s.line, who, answer, acted.refusal);
+        let put = put_outcome(out, at, s.line, who, answer, reply.refusal);
         return Taken {
             session: s,
             machine: machine,
@@ -401,8 +397,8 @@ fn by_kind(
     at: usize,
 ) -> Taken
     requires { ⌜ at + 128 ≤ length (now out) ⌝ }
-    ensures { λ r. ⌜ Took (N.lineTaken width most (M.viewMachine m) (now (items .entry)) (Vw.viewSession s) (Vw.viewLine line))
-        (Vw.stateOf (r .session) (r .machine) (now (items .exit))) (now (out .entry)) at (now (out .exit)) (r .put) ⌝ }
+    ensures { λ r. ⌜ Took (N.lineTaken width most m (now (items .entry)) s line)
+        (N.stateOf (r .session) (r .machine) (now (items .exit))) (now (out .entry)) at (now (out .exit)) (r .put) ⌝ }
 {
     match line {
         Line::Machine(kind, parties) => {
@@ -414,15 +410,7 @@ fn by_kind(
                 put: said.put,
             }
         }
-        Line::Queue(request, position) => queue_taken(
-            s,
-            m,
-            items.len() as u64,
-            request,
-            position,
-            out,
-            at,
-        ),
+        Line::Queue(request, position) => queue_taken(s, m, &*items, request, position, out, at),
         Line::Begin(who, call) => acts(s, m, items, who, Act::Begin(call), out, at),
         Line::Step(who, mark) => acts(s, m, items, who, Act::Step(mark), out, at),
         Line::Malformed => {
@@ -447,8 +435,8 @@ pub fn take_line(
     at: usize,
 ) -> Taken
     requires { ⌜ at + 128 ≤ length (now out) ⌝ }
-    ensures { λ r. ⌜ Took (N.lineTaken width most (M.viewMachine m) (now (items .entry)) (N.counted (Vw.viewSession s)) (Vw.viewLine line))
-        (Vw.stateOf (r .session) (r .machine) (now (items .exit))) (now (out .entry)) at (now (out .exit)) (r .put) ⌝ }
+    ensures { λ r. ⌜ Took (N.lineTaken width most m (now (items .entry)) (N.counted s) line)
+        (N.stateOf (r .session) (r .machine) (now (items .exit))) (now (out .entry)) at (now (out .exit)) (r .put) ⌝ }
 {
     by_kind(counted(s), m, items, line, out, at)
 }
@@ -463,8 +451,8 @@ pub fn take(
     at: usize,
 ) -> Taken
     requires { ⌜ at + 128 ≤ length (now out) ⌝ }
-    ensures { λ r. ⌜ Took (N.nextOf width most (M.viewMachine m) (now (items .entry)) (Vw.viewSession s) (now (text .entry)))
-        (Vw.stateOf (r .session) (r .machine) (now (items .exit))) (now (out .entry)) at (now (out .exit)) (r .put) ⌝ }
+    ensures { λ r. ⌜ Took (N.nextOf width most m (now (items .entry)) s (now (text .entry)))
+        (N.stateOf (r .session) (r .machine) (now (items .exit))) (now (out .entry)) at (now (out .exit)) (r .put) ⌝ }
 {
     take_line(s, m, items, read::read_line(text), out, at)
 }

@@ -1,22 +1,15 @@
 // What is printed, written into a lent buffer: each function answers the place after what it wrote.
 ghost use mathlib.Core.Path.{_≡_};
-ghost use mathlib.Core.List.{[], _∷_};
 ghost use Prim.Native.Nat.{_+_, _≤_};
 ghost use lib.ListN.{length, drop};
-ghost use Rattle.queue.specs.View as Q;
+ghost use Rattle.tables.specs.Answer.{answerRow};
 ghost use Rattle.text.specs.Ascii.{ascii};
 ghost use Rattle.text.specs.Number.{decimalOf};
 ghost use Rattle.text.specs.Write as Wr;
 ghost use Rattle.text.specs.Write.{Wrote};
-ghost use Rattle.text.specs.View as Vw;
-use queue::Answer;
-
-// The numbers that an answer has: the first `count` of two.
-pub struct Numbers {
-    pub count: usize,
-    pub first: u64,
-    pub second: u64,
-}
+use tables::answer;
+use tables::answer::Answer;
+use tables::answer::Values;
 
 pub fn put_bytes(out: &mut [u8], at: usize, src: &[u8]) -> usize
     requires { ⌜ at + length (now src) ≤ length (now out) ⌝ }
@@ -71,7 +64,7 @@ pub fn put_field(out: &mut [u8], at: usize, n: u64) -> usize
 
 fn put_word(out: &mut [u8], at: usize, a: Answer) -> usize
     requires { ⌜ at + 8 ≤ length (now out) ⌝ }
-    ensures { λ r. ⌜ Wrote (now (out .entry)) at (Wr.wordFor (Q.viewAnswer a)) (now (out .exit)) r ⌝ }
+    ensures { λ r. ⌜ Wrote (now (out .entry)) at (ascii (answerRow a .word)) (now (out .exit)) r ⌝ }
     ensures { λ r. ⌜ r ≤ at + 8 ⌝ }
 {
     match a {
@@ -95,95 +88,34 @@ fn put_word(out: &mut [u8], at: usize, a: Answer) -> usize
     }
 }
 
-fn none() -> Numbers
-    ensures { λ r. ⌜ Vw.viewNumbers r ≡ [] ⌝ }
-{
-    Numbers {
-        count: 0,
-        first: 0,
-        second: 0,
-    }
-}
-
-fn token(t: u64) -> Numbers
-    ensures { λ r. ⌜ Vw.viewNumbers r ≡ t ∷ [] ⌝ }
-{
-    Numbers {
-        count: 1,
-        first: t,
-        second: 0,
-    }
-}
-
-fn count(k: u32) -> Numbers
-    ensures { λ r. ⌜ Vw.viewNumbers r ≡ k ∷ [] ⌝ }
-{
-    Numbers {
-        count: 1,
-        first: k as u64,
-        second: 0,
-    }
-}
-
-fn both(t: u64, k: u32) -> Numbers
-    ensures { λ r. ⌜ Vw.viewNumbers r ≡ t ∷ k ∷ [] ⌝ }
-{
-    Numbers {
-        count: 2,
-        first: t,
-        second: k as u64,
-    }
-}
-
-fn numbers_of(a: Answer) -> Numbers
-    ensures { λ r. ⌜ Vw.viewNumbers r ≡ Wr.numbersOf (Q.viewAnswer a) ⌝ }
-{
-    match a {
-        Answer::Pending => none(),
-        Answer::Pushed => none(),
-        Answer::Full(t) => token(t),
-        Answer::Popped(t) => token(t),
-        Answer::None => none(),
-        Answer::Extended(k) => count(k),
-        Answer::Stolen(k) => count(k),
-        Answer::Taken { token: t, count: k } => both(t, k),
-        Answer::Drain(k) => count(k),
-        Answer::Item(t) => token(t),
-        Answer::Done => none(),
-        Answer::Closed => none(),
-        Answer::Busy => none(),
-        Answer::Empty => none(),
-        Answer::Spare(k) => count(k),
-        Answer::Yes => none(),
-        Answer::No => none(),
-    }
-}
-
-fn put_numbers(out: &mut [u8], at: usize, n: Numbers) -> usize
+fn put_numbers(out: &mut [u8], at: usize, v: Values) -> usize
     requires { ⌜ at + 42 ≤ length (now out) ⌝ }
-    ensures { λ r. ⌜ Wrote (now (out .entry)) at (Wr.fieldsFor (Vw.viewNumbers n)) (now (out .exit)) r ⌝ }
+    ensures { λ r. ⌜ Wrote (now (out .entry)) at (Wr.fieldsFor (Wr.numbersOf v)) (now (out .exit)) r ⌝ }
     ensures { λ r. ⌜ r ≤ at + 42 ⌝ }
 {
-    if n.count == 0 {
-        return at;
+    match v {
+        Values::None => at,
+        Values::Token(token) => put_field(out, at, token),
+        Values::Count(count) => put_field(out, at, count),
+        Values::Both { token, count } => {
+            let one = put_field(out, at, token);
+            put_field(out, one, count)
+        }
     }
-    let one = put_field(out, at, n.first);
-    if n.count == 1 {
-        return one;
-    }
-    put_field(out, one, n.second)
 }
 
 pub fn put_answer(out: &mut [u8], at: usize, party: u64, a: Answer) -> usize
     requires { ⌜ at + 128 ≤ length (now out) ⌝ }
-    ensures { λ r. ⌜ Wrote (now (out .entry)) at (Wr.answerOf party (Q.viewAnswer a)) (now (out .exit)) r ⌝ }
+    ensures { λ r. ⌜ Wrote (now (out .entry)) at (Wr.answerOf party a) (now (out .exit)) r ⌝ }
     ensures { λ r. ⌜ r ≤ at + 128 ⌝ }
 {
+    let row = answer::answer_row(a);
+    let values = row.values;
     let word = put_bytes(out, at, b"answer");
     let field = put_field(out, word, party);
     let tab = put_bytes(out, field, b"\t");
     let name = put_word(out, tab, a);
-    let end = put_numbers(out, name, numbers_of(a));
+    let end = put_numbers(out, name, values);
     put_bytes(out, end, b"\n")
 }
 

@@ -3,6 +3,7 @@ use mathlib.Core.Path.{_≡_}
 use mathlib.Core.Bool.{Bool, true, false}
 use Prim.Native.Nat.{ℕ, zero, suc, _+_, _-_, _*_, _/_, _%_, _^_, min}
 use lib.Dec.{eqb, leb}
+use Rattle.words.specs.declared.Position.{Position}
 
 -- a + b, turned over at 2 ^ w
 abbrev pub plus : ℕ → ℕ → ℕ → ℕ
@@ -26,6 +27,10 @@ low w x = x % 2 ^ w
 pub record Unpacked (w x h l : ℕ) : Type 0 where
   pub high-is : h ≡ high w x
   pub low-is : l ≡ low w x
+
+-- a number as a position: slots are looked up by these alone
+abbrev pub position : ℕ → Position
+position p = record { 0 = p }
 
 -- the slot of position p among cap slots
 abbrev pub slotOf : ℕ → ℕ → ℕ

@@ -1,6 +1,7 @@
 // Words that turn over, two words in one, and the capacities of a ring of slots.
 ghost use mathlib.Core.Path.{_≡_};
 ghost use Prim.Native.Nat.{_-_, _^_, _≤_};
+ghost use lib.Dec.{ltb};
 ghost use Rattle.words.specs.Word.{plus, minus, packed, Unpacked, slotOf, Pow, powBelow, capacityOf, leastOf};
 ghost use Rattle.words.specs.Edition.{width};
 
@@ -45,6 +46,27 @@ pub fn sub(a: u32, b: u32) -> u32
     ensures { λ r. ⌜ r ≡ minus width a b ⌝ }
 {
     std::num::wrapping_sub_u32(a, b)
+}
+
+// The largest word.
+pub fn largest() -> u32
+    ensures { λ r. ⌜ r ≡ 2 ^ width - 1 ⌝ }
+{
+    0xffff_ffff
+}
+
+// Whether a number is a word: a position is one.
+pub fn is_word(n: u64) -> bool
+    ensures { λ r. ⌜ r ≡ ltb n (2 ^ width) ⌝ }
+{
+    n < 0x1_0000_0000
+}
+
+// The largest capacity.
+pub fn largest_capacity() -> u64
+    ensures { λ r. ⌜ r ≡ 2 ^ (width - 1) ⌝ }
+{
+    0x8000_0000
 }
 
 // The one way from a position to a slot. A mask does for a remainder, since a capacity is a power of two.

@@ -20,7 +20,7 @@ wants-spec =
     (λ c κs. search needs)
     (λ c. search needs)
     (λ c κs. search needs)
-    (λ c. simp (c .before .enum-told .given .1, c .mine .ensures))
+    (λ c. simp (c .before .enum-told .given .1, c .own .ensures))
     (λ c. simp (c .before .before .place .given .1, c .wants .ensures))
     (λ c. simp (c .before .before .place2 .given .1, c .wants2 .ensures))
     (λ c. simp (c .before .before .place3 .given .1, c .wants3 .ensures))

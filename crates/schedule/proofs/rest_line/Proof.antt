@@ -6,10 +6,10 @@ use Rattle.schedule.proofs.rest_line.Statement.{statement}
 use Rattle.schedule.proofs.rest_line.Tie as tie
 
 abbrev Inv-loop : tie.InvT-loop
-Inv-loop items q out₀ put shelf count at₀ i₀ out at i = (i ≤ count) × (length out ≡ length out₀) × (128 ≤ length out)
+Inv-loop items q out₀ put resting count at₀ i₀ out at i = (i ≤ count) × (length out ≡ length out₀) × (128 ≤ length out)
 
 abbrev μ-loop : tie.MeasureT-loop
-μ-loop items q out₀ put shelf count at₀ i₀ out at i = count - i
+μ-loop items q out₀ put resting count at₀ i₀ out at i = count - i
 
 pub rest-line-spec : {M : Type 1} → statement M
 rest-line-spec =

@@ -1,7 +1,7 @@
 use mathlib.Core.Path.{refl, sym, _∙_}
 use Rattle.words.specs.Edition.{width}
-use Rattle.machine.specs.View.{most, viewAct}
-use Rattle.block.specs.Held.{heldIn}
+use Rattle.tables.specs.Machine.{most}
+use Rattle.block.specs.Contents.{contentsIn}
 use Rattle.block.proofs.Acting.{left-none}
 use borrow.Author.Needs.{needs}
 use Rattle.block.proofs.entry.act.Statement.{statement}
@@ -17,4 +17,8 @@ act-spec =
     (λ c. search needs)
     (λ c. search needs)
     (λ c. search needs)
-    (λ c. let a = c .before .before .before .before .before .args in (left-none width most (a .block .now) (sym (c .before .is-block .ensures) ∙ c .if1 .left) (heldIn width most (a .block .now)) refl (a .items .now) (a .who) (viewAct (a .act)), λ n. refl)))
+    (λ c. let a = c .before .before .before .before .before .args in (
+      left-none width most (a .block .now) (sym (c .before .is-block .ensures) ∙ c .if1 .left)
+          (contentsIn width most (a .block .now)) refl (a .items .now) (a .who) (a .act),
+      λ n. refl,
+    )))

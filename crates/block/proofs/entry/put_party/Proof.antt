@@ -4,10 +4,8 @@ use mathlib.Core.List.{List}
 use lib.ListN.{length}
 use Rattle.words.specs.Edition.{width}
 use Rattle.tables.specs.Machine.{restretched}
-use Rattle.queue.specs.View.{viewDrain}
-use Rattle.machine.specs.View.{viewParty}
-use Rattle.block.specs.declared.Cell.{Cell}
-use Rattle.block.specs.Block.{seatWords, seatBase}
+use Rattle.block.specs.declared.PlaceWords.{PlaceWords}
+use Rattle.block.specs.Block.{partyWords, partyBase}
 use Rattle.block.proofs.Seats.{party-back}
 use borrow.Author.Needs.{needs}
 use Rattle.block.proofs.entry.put_party.Statement.{statement}
@@ -24,9 +22,11 @@ put-party-spec =
     (λ c. search needs)
     (λ c κs. search needs)
     (λ c. search needs)
-    (λ c. let a = c .before .before .before .before .before .before .before .before .before .args in let sw = c .before .before .before .before .before .seat-words in let d = viewDrain (a .party .drain) in let e = sw .ensures .0 ∙ ap
-    (λ (x : Cell). seatWords width x d) (c .before .before .before .before .before .before .place .ensures) in (
-      c .before .before .file .ensures ∙ ap
-          (λ (ws : List ℕ). restretched (seatBase (a .i)) (length ws) ws (a .block .now)) e,
-      λ k. party-back width k (viewParty (a .party)) (sw .result) (c .before .before .before .before .before .before .place .result) (c .before .before .before .before .before .before .place .ensures) (sw .ensures .0) (sw .ensures .1 .0) (sw .ensures .1 .1),
+    (λ c. let a = c .before .before .before .before .before .before .before .before .before .args in let sw = c .before .before .before .before .before .party-words in
+    let d = (a .party .drain) in let e = sw .ensures .0 ∙ ap
+    (λ (x : PlaceWords). partyWords width x d) (c .before .before .before .before .before .before .place .ensures) in (
+      c .before .before .put-words .ensures ∙ ap
+          (λ (ws : List ℕ). restretched (partyBase (a .i)) (length ws) ws (a .block .now)) e,
+      party-back width (a .party) (sw .result) (c .before .before .before .before .before .before .place .result) (c .before .before .before .before .before .before .place .ensures)
+          (sw .ensures .0) (sw .ensures .1 .0) (sw .ensures .1 .1),
     )))

@@ -1,10 +1,10 @@
-use Prim.Native.Nat.{ℕ, _+_, _*_}
+use Prim.Native.Nat.{ℕ}
 use mathlib.Core.Path.{sym, ap, _∙_}
 use mathlib.Core.List.{List}
 use lib.ListN.{length}
 use Rattle.words.specs.Edition.{width}
-use Rattle.tables.specs.Machine.{restretched}
-use Rattle.block.specs.Block.{queueFrom}
+use Rattle.tables.specs.Machine.{most, restretched}
+use Rattle.block.specs.Block.{queueBase, queueFrom}
 use borrow.Author.Needs.{needs}
 use Rattle.block.proofs.entry.put_queue.Statement.{statement}
 use Rattle.block.proofs.entry.put_queue.Tie as tie
@@ -20,7 +20,7 @@ put-queue-spec =
     (λ c κs. search needs)
     (λ c. search needs)
     (λ c. let a = c .before .before .before .before .before .before .before .args in let qw = c .before .before .before .before .before .queue-words in (
-      λ k. c .before .before .file .ensures ∙ ap
-          (λ (ws : List ℕ). restretched (196 + 3 * a .i) (length ws) ws (a .block .now)) (qw .ensures .0 k),
-      λ k. ap (queueFrom width k) (sym (qw .ensures .0 k)) ∙ qw .ensures .1 k,
+      c .before .before .put-words .ensures ∙ ap
+          (λ (ws : List ℕ). restretched (queueBase most (a .i)) (length ws) ws (a .block .now)) (qw .ensures .0),
+      ap (queueFrom width) (sym (qw .ensures .0)) ∙ qw .ensures .1,
     )))

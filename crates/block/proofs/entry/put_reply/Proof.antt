@@ -18,5 +18,5 @@ put-reply-spec =
     (λ c. search needs)
     (λ c κs. search needs)
     (λ c. search needs)
-    (λ c. let a = c .before .before .before .before .before .before .before .args in c .before .before .file .ensures ∙ ap
+    (λ c. let a = c .before .before .before .before .before .before .before .args in c .before .before .put-words .ensures ∙ ap
     (λ (ws : List ℕ). restretched replyBase (length ws) ws (a .block .now)) (c .before .before .before .before .before .reply-words .ensures)))

@@ -1,6 +1,6 @@
-use Rattle.machine.specs.View.{most}
+use Rattle.tables.specs.Machine.{most}
 use borrow.Author.Needs.{needs}
-use Rattle.block.proofs.Sealed.{too-short, not-sealed, no-kind, by-parties}
+use Rattle.block.proofs.Sealed.{too-short, not-sealed, other-layout, by-parties}
 use Rattle.block.proofs.layout.is_block.Statement.{statement}
 use Rattle.block.proofs.layout.is_block.Tie as tie
 
@@ -13,5 +13,6 @@ is-block-spec =
     (λ c. not-sealed most (c .before .before .before .args .block .now) (c .before .before .if1 .left) (c .if2 .taken))
     (λ c. search needs)
     (λ c. search needs)
-    (λ c. by-parties most (c .before .before .before .before .before .before .args .block .now) (c .before .before .before .before .before .if1 .left) (c .before .before .before .if2 .left) (c .before .if3 .taken))
-    (λ c. no-kind most (c .before .before .before .before .before .args .block .now) (c .before .before .before .before .if1 .left) (c .before .before .if2 .left) (c .if3 .left)))
+    (λ c. by-parties most (c .before .before .before .before .before .before .args .block .now) (c .before .before .before .before .before .if1 .left) (c .before .before .before .if2 .left)
+    (c .before .if3 .taken))
+    (λ c. other-layout most (c .before .before .before .before .before .args .block .now) (c .before .before .before .before .if1 .left) (c .before .before .if2 .left) (c .if3 .left)))

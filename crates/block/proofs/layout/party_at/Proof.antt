@@ -12,4 +12,4 @@ party-at-spec =
     (λ c κs. search needs)
     (λ c κs. search needs)
     (λ c κs. search needs)
-    (λ c. simp (c .before .before .cell-at .ensures, c .before .drain-at .ensures, c .place .ensures)))
+    (λ c. simp (c .before .before .words-at .ensures, c .before .drain-at .ensures, c .place .ensures)))

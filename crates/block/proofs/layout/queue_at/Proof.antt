@@ -1,5 +1,6 @@
-use Prim.Native.Nat.{_+_, _*_}
 use Rattle.words.specs.Edition.{width}
+use Rattle.tables.specs.Machine.{most}
+use Rattle.block.specs.Block.{queueBase}
 use Rattle.block.proofs.Words.{queue-is}
 use borrow.Author.Needs.{needs}
 use Rattle.block.proofs.layout.queue_at.Statement.{statement}
@@ -19,6 +20,10 @@ queue-at-spec =
     (λ c. search needs)
     (λ c κs. search needs)
     (λ c. search needs)
+    (λ c κs. search needs)
     (λ c. search needs)
     (λ c. search needs)
-    (λ c. λ k. let a = c .before .before .before .before .before .before .args in queue-is width (a .block .now) (196 + 3 * a .i) k (c .before .before .before .unpack .ensures) (c .before .unpack2 .ensures)))
+    (λ c. search needs)
+    (λ c. let a = c .before .before .before .before .before .before .before .before .args in
+    queue-is width (a .block .now) (queueBase most (a .i)) (c .before .before .before .before .before .unpack .ensures) (c .before .before .before .unpack2 .ensures)
+    (c .before .kind-of .ensures)))

@@ -1,19 +1,17 @@
-use Prim.Native.Nat.{_≤_, _<_, _*_, _-_}
+use Prim.Native.Nat.{_≤_, _<_, _*_, _^_, _-_}
 use mathlib.Core.Path.{_≡_, refl}
 use native.Mathlib.Omega.{arith}
-use lib.ListN.{getD}
 use borrow.Author.Needs.{needs}
 use Rattle.words.specs.Edition.{width}
-use Rattle.tables.specs.Machine.{baseOf}
-use Rattle.machine.specs.View.{most}
-use Rattle.block.specs.Block.{kindOf, machineOf}
+use Rattle.tables.specs.Machine.{most, baseOf}
+use Rattle.block.specs.Block.{machineOf}
 use Rattle.block.proofs.Looks.{queue-read, base-next}
 use Rattle.block.proofs.look.base_of.Statement.{statement}
 use Rattle.block.proofs.look.base_of.Tie as tie
 
 abbrev Inv-loop : tie.InvT-loop
 Inv-loop block n base₀ i₀ base i =
-    (i ≤ n) × (base ≤ 4294967296 * i) × (base ≡ baseOf i (machineOf width most block .queue))
+    (i ≤ n) × (base ≤ 2 ^ width * i) × (base ≡ baseOf i (machineOf width most block .queue))
 
 abbrev μ-loop : tie.MeasureT-loop
 μ-loop block n base₀ i₀ base i = n - i
@@ -29,11 +27,10 @@ loop-again : tie.Need-loop-again Inv-loop μ-loop
 loop-again c =
     let l = c .before .before .before .loop in
     let xs = c .before .before .before .before .before .args .block .now in
-    let k = kindOf (getD xs 1 0) in
     let h : l .i < most = omega arith in (
       omega arith,
       omega arith,
-      base-next width most xs (l .i) (l .inv .2) (queue-read width most xs (l .i) h refl (c .before .queue-at .ensures k)),
+      base-next width most xs (l .i) (l .inv .2) (queue-read width most xs (l .i) h (c .before .queue-at .ensures)),
     )
 
 returns : tie.Need-returns Inv-loop μ-loop

@@ -2,7 +2,7 @@ use mathlib.Core.Path.{sym, _∙_}
 use native.Mathlib.Omega.{arith}
 use borrow.Author.Needs.{needs}
 use Rattle.words.specs.Edition.{width}
-use Rattle.machine.specs.View.{most}
+use Rattle.tables.specs.Machine.{most}
 use Rattle.block.proofs.Sealed.{block-long}
 use Rattle.block.proofs.Looks.{parties-yes, parties-no}
 use Rattle.block.proofs.look.parties.Statement.{statement}

@@ -1,9 +1,6 @@
-use mathlib.Core.Path.{refl}
-use lib.ListN.{getD}
 use borrow.Author.Needs.{needs}
 use Rattle.words.specs.Edition.{width}
-use Rattle.machine.specs.View.{most}
-use Rattle.block.specs.Block.{kindOf}
+use Rattle.tables.specs.Machine.{most}
 use Rattle.block.proofs.Looks.{block-there, queue-there, queue-read, word-there, word-none}
 use Rattle.block.proofs.look.word.Statement.{statement}
 use Rattle.block.proofs.look.word.Tie as tie
@@ -15,6 +12,6 @@ word-spec =
     (λ c κs. search needs)
     (λ c κs. let xs = c .before .before .before .args .block .now in let e = c .before .parties .ensures in (queue-there width most xs e (c .if1 .taken), block-there width most xs e (c .if1 .taken)))
     (λ c κs. search needs)
-    (λ c. let a = c .before .before .before .before .before .args in let xs = a .block .now in let k = kindOf (getD xs 1 0) in let e = c .before .before .before .parties .ensures in let h = c .before .before .if1 .taken in
-    word-there width most xs e h (a .which) (c .word-of .ensures k) (queue-read width most xs (a .queue) (queue-there width most xs e h) refl (c .before .queue-at .ensures k)))
+    (λ c. let a = c .before .before .before .before .before .args in let xs = a .block .now in let e = c .before .before .before .parties .ensures in let h = c .before .before .if1 .taken in
+    word-there width most xs e h (a .which) (c .word-of .ensures) (queue-read width most xs (a .queue) (queue-there width most xs e h) (c .before .queue-at .ensures)))
     (λ c. let a = c .before .before .before .args in word-none width most (a .block .now) (c .before .parties .ensures) (c .if1 .left) (a .which)))

@@ -1,8 +1,7 @@
 use mathlib.Core.Path.{sym}
 use lib.ListN.{List·getD-eq-default}
 use borrow.Author.Needs.{needs}
-use Rattle.queue.specs.View.{viewQueue}
-use Rattle.block.specs.Look.{wordsOf}
+use Rattle.block.specs.Look.{queueWordsOf}
 use Rattle.block.proofs.look.word_of.Statement.{statement}
 use Rattle.block.proofs.look.word_of.Tie as tie
 
@@ -16,4 +15,4 @@ word-of-spec =
     (λ c. search needs)
     (λ c. search needs)
     (λ c. search needs)
-    (λ c. λ k. sym (List·getD-eq-default (wordsOf (viewQueue k (c .before .before .before .before .args .queue))) 0 (c .if1 .left))))
+    (λ c. sym (List·getD-eq-default (queueWordsOf (c .before .before .before .before .args .queue)) 0 (c .if1 .left))))

@@ -3,15 +3,16 @@ use Prim.Native.Nat.{ℕ, _-_, _≤_}
 use mathlib.Core.Path.{_≡_, refl, subst, _∙_}
 use native.Mathlib.Omega.{arith}
 use lib.ListN.{length, length-set}
+use Rattle.tables.specs.Machine.{most}
 use Rattle.block.proofs.Opens.{Copied, copied-more, copied-all}
 use Rattle.block.proofs.open.first_requests.Statement.{statement}
 use Rattle.block.proofs.open.first_requests.Tie as tie
 
 abbrev Inv-loop : tie.InvT-loop
-Inv-loop given out₀ i₀ out i = (i ≤ 16) × (length out ≡ 16) × Copied given i out
+Inv-loop given out₀ i₀ out i = (i ≤ most) × (length out ≡ most) × Copied given i out
 
 abbrev μ-loop : tie.MeasureT-loop
-μ-loop given out₀ i₀ out i = 16 - i
+μ-loop given out₀ i₀ out i = most - i
 
 pub first-requests-spec : {M : Type 1} → statement M
 first-requests-spec =
@@ -25,6 +26,12 @@ first-requests-spec =
     (λ c. search needs)
     (λ c. search needs)
     (λ c. search needs)
-    (λ c. let v = c .before .before .loop in (omega (arith, c .before .loop-test .taken), length-set (v .out) (v .i) (c .request .result) ∙ v .inv .1, copied-more (c .before .before .before .before .args .given .now) (v .out) (v .i) (c .request .result) (omega (arith, v .inv .1, c .before .loop-test .taken)) (c .request .ensures) (v .inv .2)))
-    (λ c. let v = c .before .loop in let g = c .before .before .before .args .given .now in let e : v .i ≡ 16 = omega (arith, v .inv .0, c .loop-test .left) in copied-all 16 g (v .out) (v .inv .1) (subst
+    (λ c. let v = c .before .before .loop in (
+      omega (arith, c .before .loop-test .taken),
+      length-set (v .out) (v .i) (c .request .result) ∙ v .inv .1,
+      copied-more
+          (c .before .before .before .before .args .given .now) (v .out) (v .i) (c .request .result) (omega (arith, v .inv .1, c .before .loop-test .taken)) (c .request .ensures) (v .inv .2),
+    ))
+    (λ c. let v = c .before .loop in let g = c .before .before .before .args .given .now in let e : v .i ≡ most = omega (arith, v .inv .0, c .loop-test .left) in
+    copied-all most g (v .out) (v .inv .1) (subst
     (λ (n : ℕ). Copied g n (v .out)) e (v .inv .2))))

@@ -1,10 +1,11 @@
-use borrow.Author.Tests.{eq-eqb, ne-eqb}
+use borrow.Author.Tests.{ne-eqb}
 use Rattle.block.proofs.read.rule_of.Statement.{statement}
 use Rattle.block.proofs.read.rule_of.Tie as tie
 
 pub rule-of-spec : {M : Type 1} → statement M
-rule-of-spec = tie.close (tie.spec
-    (λ c. simp (eq-eqb _ _ (c .if1 .taken)))
-    (λ c. simp (ne-eqb _ _ (c .before .if1 .left), eq-eqb _ _ (c .if2 .taken)))
-    (λ c. simp (ne-eqb _ _ (c .before .before .if1 .left), ne-eqb _ _ (c .before .if2 .left), eq-eqb _ _ (c .if3 .taken)))
-    (λ c. simp (ne-eqb _ _ (c .before .before .if1 .left), ne-eqb _ _ (c .before .if2 .left), ne-eqb _ _ (c .if3 .left))))
+rule-of-spec =
+    tie.close (tie.spec
+    (λ c. simp (c .match .keys1))
+    (λ c. simp (c .match .keys2))
+    (λ c. simp (c .match .keys3))
+    (λ c. simp (ne-eqb _ _ (c .match .rest .0 .0 .1), ne-eqb _ _ (c .match .rest .0 .1), ne-eqb _ _ (c .match .rest .1))))

@@ -9,14 +9,35 @@ reply-words-spec =
     tie.close
     (tie.spec
     (λ c κs. search needs)
+    (λ c. search needs)
+    (λ c κs. search needs)
+    (λ c. search needs)
+    (λ c κs. search needs)
+    (λ c. search needs)
     (λ c κs. search needs)
     (λ c κs. search needs)
     (λ c κs. search needs)
     (λ c κs. search needs)
     (λ c κs. search needs)
-    (λ c κs. search needs)
-    (λ c κs. search needs)
-    (λ c κs. search needs)
-    (λ c κs. search needs)
-    (λ c κs. search needs)
-    (λ c. simp (c .before .before .before .before .before .before .before .before .before .before .answer-number .ensures, c .before .before .before .before .before .before .before .before .before .answer-token .ensures, c .before .before .before .before .before .before .before .before .answer-count .ensures, c .before .before .before .before .before .before .before .wide .ensures, c .before .before .before .before .before .before .wide2 .ensures, c .before .before .before .before .before .deed-number .ensures, c .before .before .before .before .deed-value .ensures, c .before .before .before .deed-number2 .ensures, c .before .before .deed-value2 .ensures, c .before .deed-number3 .ensures, c .deed-value3 .ensures)))
+    (λ c. search needs)
+    (λ c. search needs)
+    (λ c. search needs)
+    (λ c. search needs)
+    (λ c. search needs)
+    (λ c. search needs)
+    (λ c. search needs)
+    (λ c. search needs)
+    (λ c. search needs)
+    (λ c. search needs)
+    (λ c. search needs)
+    (λ c. search needs)
+    (λ c. simp (
+      c .before .before .before .before .before .before .before .before .before .before .before .before .answer-row .ensures,
+      c .before .before .before .before .before .before .before .before .effect-words .ensures,
+      c .before .before .before .before .before .before .effect-words2 .ensures,
+      c .before .before .before .before .effect-words3 .ensures,
+      c .before .before .before .byte .ensures,
+      c .before .before .token-of .ensures,
+      c .before .count-of .ensures,
+      c .wide .ensures,
+    )))

@@ -14,6 +14,16 @@ close-spec =
     (λ c κs. search needs)
     (λ c. search needs)
     (λ c κs. search needs)
-    (λ c. simp (c .before .before .before .before .before .ending-what .ensures, c .before .before .before .before .ending-count .ensures, c .before .before .place .given .1, c .cell .ensures))
-    (λ c. simp (c .before .before .before .before .ending-what .ensures, c .before .before .before .ending-count .ensures, c .before .enum-told .given .1, c .cell2 .ensures))
-    (λ c. simp (c .before .before .before .before .before .ending-what .ensures, c .before .before .before .before .ending-count .ensures, c .before .before .place2 .given .1, c .cell3 .ensures)))
+    (λ c. simp (
+      c .before .before .before .before .before .closing-words .ensures,
+      c .before .before .before .before .closing-count .ensures,
+      c .before .before .place .given .1,
+      c .place-words .ensures,
+    ))
+    (λ c. simp (c .before .before .before .before .closing-words .ensures, c .before .before .before .closing-count .ensures, c .before .enum-told .given .1, c .place-words2 .ensures))
+    (λ c. simp (
+      c .before .before .before .before .before .closing-words .ensures,
+      c .before .before .before .before .closing-count .ensures,
+      c .before .before .place2 .given .1,
+      c .place-words3 .ensures,
+    )))

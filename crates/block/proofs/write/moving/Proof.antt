@@ -7,4 +7,4 @@ moving-spec = tie.close (tie.spec
     (λ c κs. search needs)
     (λ c κs. search needs)
     (λ c κs. search needs)
-    (λ c. simp (c .before .before .haul-tag .ensures, c .before .what .ensures, c .cell .ensures)))
+    (λ c. simp (c .before .before .transfer-tag .ensures, c .before .call-words .ensures, c .place-words .ensures)))

@@ -1,10 +1,10 @@
-use Rattle.block.specs.Cell.{cellOf}
+use Rattle.block.specs.PlaceWords.{wordsOf}
 use borrow.Author.Needs.{needs}
 use Rattle.block.proofs.write.place.Statement.{statement}
 use Rattle.block.proofs.write.place.Tie as tie
 
 pub place-spec : {M : Type 1} → statement M
-unfolding cellOf
+unfolding wordsOf
 place-spec =
     tie.close
     (tie.spec
@@ -28,6 +28,6 @@ place-spec =
     (λ c. simp (c .before .before .place .given .1, c .lifo .ensures))
     (λ c. simp (c .before .before .place2 .given .1, c .fifo .ensures))
     (λ c. simp (c .before .before .place3 .given .1, c .own .ensures))
-    (λ c. simp (c .before .before .before .before .place4 .given .1, c .before .before .goal-what .ensures, c .before .goal-dest .ensures, c .book .ensures))
+    (λ c. simp (c .before .before .before .before .place4 .given .1, c .before .before .booking-words .ensures, c .before .booking-destination .ensures, c .book .ensures))
     (λ c. search needs)
     (λ c. simp (c .before .before .place6 .given .1, c .close .ensures)))

@@ -6,4 +6,4 @@ pub plain-spec : {M : Type 1} → statement M
 plain-spec = tie.close (tie.spec
     (λ c κs. search needs)
     (λ c κs. search needs)
-    (λ c. simp (c .before .what .ensures, c .cell .ensures)))
+    (λ c. simp (c .before .call-words .ensures, c .place-words .ensures)))

@@ -1,7 +1,7 @@
 use mathlib.Core.Path.{refl, sym, _∙_}
 use Rattle.words.specs.Edition.{width}
-use Rattle.machine.specs.View.{most}
-use Rattle.block.specs.Held.{heldIn}
+use Rattle.tables.specs.Machine.{most}
+use Rattle.block.specs.Contents.{contentsIn}
 use Rattle.host.proofs.Numbering.{begins, begins-not}
 use borrow.Author.Needs.{needs}
 use Rattle.host.proofs.export.ragnulois_begin.Statement.{statement}
@@ -16,5 +16,14 @@ ragnulois-begin-spec =
     (λ c κs. search needs)
     (λ c. search needs)
     (λ c. search needs)
-    (λ c. let a = c .before .before .before .before .before .before .before .before .before .before .before .before .args in let e = c .before .before .before .before .act .ensures in (begins width most (heldIn width most (a .block .now)) (a .items .now) (a .party) (a .call) (a .source) (a .rule) (a .number) (sym (c .before .before .before .before .before .before .before .before .before .call-known .ensures) ∙ c .before .before .before .before .before .before .before .before .if1 .taken) (c .before .before .before .before .before .before .before .call-of .ensures) (e .0), e .1))
-    (λ c. let a = c .before .before .before .before .args in (begins-not width most (heldIn width most (a .block .now)) (a .items .now) (a .party) (a .call) (a .source) (a .rule) (a .number) (sym (c .before .call-known .ensures) ∙ c .if1 .left), λ n. refl)))
+    (λ c. let a = c .before .before .before .before .before .before .before .before .before .before .before .before .args in let e = c .before .before .before .before .act .ensures in (
+      begins width most (contentsIn width most (a .block .now)) (a .items .now) (a .party) (a .call) (a .source) (a .rule) (a .number)
+          (sym (c .before .before .before .before .before .before .before .before .before .call-known .ensures) ∙ c .before .before .before .before .before .before .before .before .if1 .taken)
+          (c .before .before .before .before .before .before .before .call-of .ensures) (e .0),
+      e .1,
+    ))
+    (λ c. let a = c .before .before .before .before .args in (
+      begins-not width most (contentsIn width most (a .block .now)) (a .items .now) (a .party) (a .call) (a .source) (a .rule)
+          (a .number) (sym (c .before .call-known .ensures) ∙ c .if1 .left),
+      λ n. refl,
+    )))

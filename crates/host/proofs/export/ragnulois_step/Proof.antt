@@ -1,8 +1,8 @@
 use borrow.Author.Tests.{lt-ltb, le-ltb}
 use mathlib.Core.Path.{refl}
 use Rattle.words.specs.Edition.{width}
-use Rattle.machine.specs.View.{most}
-use Rattle.block.specs.Held.{heldIn}
+use Rattle.tables.specs.Machine.{most}
+use Rattle.block.specs.Contents.{contentsIn}
 use Rattle.host.proofs.Numbering.{steps, steps-not}
 use borrow.Author.Needs.{needs}
 use Rattle.host.proofs.export.ragnulois_step.Statement.{statement}
@@ -15,5 +15,13 @@ ragnulois-step-spec =
     (λ c κs. search needs)
     (λ c. search needs)
     (λ c. search needs)
-    (λ c. let a = c .before .before .before .before .before .before .before .before .before .before .before .args in let e = c .before .before .before .before .act .ensures in (steps width most (heldIn width most (a .block .now)) (a .items .now) (a .party) (a .mark) (a .number) (lt-ltb _ _ (c .before .before .before .before .before .before .before .before .if1 .taken)) (c .before .before .before .before .before .before .before .mark-of .ensures) (e .0), e .1))
-    (λ c. let a = c .before .before .before .args in (steps-not width most (heldIn width most (a .block .now)) (a .items .now) (a .party) (a .mark) (a .number) (le-ltb _ _ (c .if1 .left)), λ n. refl)))
+    (λ c. let a = c .before .before .before .before .before .before .before .before .before .before .before .args in let e = c .before .before .before .before .act .ensures in (
+      steps width most (contentsIn width most (a .block .now)) (a .items .now) (a .party) (a .mark) (a .number)
+          (lt-ltb _ _ (c .before .before .before .before .before .before .before .before .if1 .taken)) (c .before .before .before .before .before .before .before .mark-of .ensures) (e .0),
+      e .1,
+    ))
+    (λ c. let a = c .before .before .before .args in (
+      steps-not width most (contentsIn width most (a .block .now)) (a .items .now) (a .party) (a .mark) (a .number)
+          (le-ltb _ _ (c .if1 .left)),
+      λ n. refl,
+    )))

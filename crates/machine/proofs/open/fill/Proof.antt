@@ -1,6 +1,5 @@
 use borrow.Author.Needs.{needs}
 use Prim.Native.Nat.{_-_}
-use mathlib.Core.Path.{refl}
 use mathlib.Core.List.{[]}
 use native.Mathlib.Omega.{arith}
 use Rattle.words.specs.Edition.{width}
@@ -10,10 +9,10 @@ use Rattle.machine.proofs.open.fill.Statement.{statement}
 use Rattle.machine.proofs.open.fill.Tie as tie
 
 abbrev Inv-loop : tie.InvT-loop
-Inv-loop n requests positions out₀ kind total₀ i₀ out total i = Filling kind requests positions n i out total
+Inv-loop kind n requests positions out₀ total₀ i₀ out total i = Filling kind requests positions n i out total
 
 abbrev μ-loop : tie.MeasureT-loop
-μ-loop n requests positions out₀ kind total₀ i₀ out total i = n - i
+μ-loop kind n requests positions out₀ total₀ i₀ out total i = n - i
 
 pub fill-spec : {M : Type 1} → statement M
 fill-spec =
@@ -21,7 +20,7 @@ fill-spec =
     (tie.spec
     Inv-loop
     μ-loop
-    (λ c. filling-start _ _ _ _ (c .pre .0) _ refl (c .pre .1 .1))
+    (λ c. filling-start _ _ _ _ (c .pre .0) _ (c .pre .1 .1))
     (λ c. search needs)
     (λ c. search needs)
     (λ c. search needs)
@@ -33,6 +32,8 @@ fill-spec =
     (λ c. search needs)
     (λ c. search needs)
     (λ c. search needs)
-    (λ c. filling-more _ _ _ _ (c .before .before .before .before .pre .0) _ _ _ _ (c .before .before .loop-test .taken) (search needs) (c .before .fresh .ensures) (c .before .before .before .loop .inv))
+    (λ c.
+    filling-more _ _ _ _ (c .before .before .before .before .pre .0) _ _ _ _ (c .before .before .loop-test .taken) (search needs) (c .before .fresh .ensures)
+    (c .before .before .before .loop .inv))
     (λ c. search needs)
     (λ c. filling-ends (c .before .loop .inv) (c .loop-test .left)))

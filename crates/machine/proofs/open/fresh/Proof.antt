@@ -1,3 +1,4 @@
+use borrow.Author.Tests.{lt-ltb, le-ltb, le-leb, lt-leb, eq-eqb, ne-eqb}
 use borrow.Author.Needs.{needs}
 use Rattle.machine.proofs.open.fresh.Statement.{statement}
 use Rattle.machine.proofs.open.fresh.Tie as tie

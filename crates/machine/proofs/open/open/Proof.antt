@@ -2,10 +2,11 @@ use borrow.Author.Needs.{needs}
 use Prim.Native.Nat.{_<_, _≤_}
 use mathlib.Core.Path.{sym, _∙_}
 use native.Mathlib.Omega.{arith}
+use lib.ListN.{length}
 use Rattle.words.specs.Edition.{width}
-use Rattle.queue.specs.View.{viewKind}
-use Rattle.machine.specs.View.{most, everyKind}
-use Rattle.machine.proofs.Opens.{none-refused, many-refused, over-refused, sum-refused, none-refusal, opened-refused, opened-taken, filled-as, blank-as}
+use Rattle.tables.specs.Machine.{most}
+use Rattle.tables.specs.Step.{everyKind}
+use Rattle.machine.proofs.Opens.{none-refused, many-refused, over-refused, sum-refused, none-refusal, opened-refused, opened-taken}
 use Rattle.machine.proofs.open.open.Statement.{statement}
 use Rattle.machine.proofs.open.open.Tie as tie
 
@@ -14,13 +15,24 @@ open-spec =
     tie.close
     (tie.spec
     (λ c κs. search needs)
-    (λ c. let a = c .before .before .args in let n = a .parties in opened-refused width most (everyKind most (viewKind (a .kind))) n _ _ (a .lent) (c .before .blank .ensures .1) (none-refused width most (everyKind most (viewKind (a .kind))) n _ _ (a .lent) (c .if1 .taken)) (omega arith))
-    (λ c. let a = c .before .before .before .args in let n = a .parties in opened-refused width most (everyKind most (viewKind (a .kind))) n _ _ (a .lent) (c .before .before .blank .ensures .1) (many-refused width most (everyKind most (viewKind (a .kind))) n _ _ (a .lent) (c .if2 .taken)) (omega arith))
+    (λ c. let a = c .before .before .before .args in let ks = everyKind most (a .kind) in let n = a .parties in let lent = length (a .items .now) in
+    opened-refused width most ks n _ _ lent (c .before .blank .ensures) (none-refused width most ks n _ _ lent (c .if1 .taken)) (omega arith))
+    (λ c. let a = c .before .before .before .before .args in let ks = everyKind most (a .kind) in let n = a .parties in let lent = length (a .items .now) in
+    opened-refused width most ks n _ _ lent (c .before .before .blank .ensures) (many-refused width most ks n _ _ lent (c .if2 .taken)) (omega arith))
     (λ c κs. search needs)
-    (λ c. let a = c .before .before .before .before .before .args in let n = a .parties in let some : 0 < n = omega (arith, c .before .before .before .if1 .left) in
-    opened-refused width most (everyKind most (viewKind (a .kind))) n _ _ (a .lent) (c .before .before .before .before .blank .ensures .1) (over-refused width most (everyKind most (viewKind (a .kind))) n _ _ (a .lent) some (c .before .before .if2 .left) (sym (c .before .over .ensures) ∙ c .if3 .taken)) (omega arith))
-    (λ c κs. (c .before .before .if2 .left, (sym (c .before .over .ensures) ∙ c .if3 .left, blank-as (c .before .before .before .before .blank .ensures .0) (c .before .before .before .before .blank .ensures .1))))
-    (λ c. let a = c .before .before .before .before .before .before .before .before .args in let n = a .parties in let some : 0 < n = omega (arith, c .before .before .before .before .before .before .if1 .left) in let f = filled-as (a .requests) (a .positions) (c .before .before .before .before .before .before .before .blank .ensures .0) (c .before .before .fill .ensures) in
-    opened-refused width most (everyKind most (viewKind (a .kind))) n _ _ (a .lent) (c .before .before .before .before .before .before .before .blank .ensures .1) (sum-refused width most (everyKind most (viewKind (a .kind))) n _ _ (a .lent) some (c .before .before .before .before .before .if2 .left) (sym (c .before .before .before .before .over .ensures) ∙ c .before .before .before .if3 .left) (omega (arith, f .1, c .if4 .taken))) (omega arith))
-    (λ c. let a = c .before .before .before .before .before .before .before .before .before .args in let n = a .parties in let some : 0 < n = omega (arith, c .before .before .before .before .before .before .before .if1 .left) in let f = filled-as (a .requests) (a .positions) (c .before .before .before .before .before .before .before .before .blank .ensures .0) (c .before .before .before .fill .ensures) in
-    opened-taken width most (everyKind most (viewKind (a .kind))) n _ _ (a .lent) (f .0) (none-refusal width most (everyKind most (viewKind (a .kind))) n _ _ (a .lent) some (c .before .before .before .before .before .before .if2 .left) (sym (c .before .before .before .before .before .over .ensures) ∙ c .before .before .before .before .if3 .left) (omega (arith, f .1, c .before .if4 .left)))))
+    (λ c. let a = c .before .before .before .before .before .before .args in let ks = everyKind most (a .kind) in let n = a .parties in let lent = length (a .items .now) in
+    let some : 0 < n = omega (arith, c .before .before .before .if1 .left) in
+    opened-refused width most ks n _ _ lent (c .before .before .before .before .blank .ensures)
+    (over-refused width most ks n _ _ lent some (c .before .before .if2 .left) (sym (c .before .over .ensures) ∙ c .if3 .taken)) (omega arith))
+    (λ c κs. (c .before .before .if2 .left, (sym (c .before .over .ensures) ∙ c .if3 .left, c .before .before .before .before .blank .ensures)))
+    (λ c. let a = c .before .before .before .before .before .before .before .before .before .args in let ks = everyKind most (a .kind) in let n = a .parties in let lent = length (a .items .now) in
+    let some : 0 < n = omega (arith, c .before .before .before .before .before .before .if1 .left) in let f = c .before .before .fill .ensures in
+    opened-refused width most ks n _ _ lent (c .before .before .before .before .before .before .before .blank .ensures)
+    (sum-refused width most ks n _ _ lent some (c .before .before .before .before .before .if2 .left) (sym (c .before .before .before .before .over .ensures) ∙ c .before .before .before .if3 .left)
+    (omega (arith, f .1, c .if4 .taken))) (omega arith))
+    (λ c. let a = c .before .before .before .before .before .before .before .before .before .before .args in let ks = everyKind most (a .kind) in let n = a .parties in
+    let lent = length (a .items .now) in
+    let some : 0 < n = omega (arith, c .before .before .before .before .before .before .before .if1 .left) in let f = c .before .before .before .fill .ensures in
+    opened-taken width most ks n _ _ lent (f .0)
+    (none-refusal width most ks n _ _ lent some (c .before .before .before .before .before .before .if2 .left)
+    (sym (c .before .before .before .before .before .over .ensures) ∙ c .before .before .before .before .if3 .left) (omega (arith, f .1, c .before .if4 .left)))))

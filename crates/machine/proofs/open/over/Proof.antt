@@ -1,5 +1,5 @@
 use borrow.Author.Needs.{needs}
-use Prim.Native.Nat.{_-_, _≤_}
+use Prim.Native.Nat.{_-_, _^_, _≤_}
 use mathlib.Core.Path.{_≡_, refl, ap, _∙_}
 use native.Mathlib.Omega.{arith}
 use Rattle.words.specs.Edition.{width}
@@ -9,10 +9,10 @@ use Rattle.machine.proofs.open.over.Statement.{statement}
 use Rattle.machine.proofs.open.over.Tie as tie
 
 abbrev Inv-loop : tie.InvT-loop
-Inv-loop n requests found₀ i₀ found i = (i ≤ n) × (found ≡ overTo width requests i)
+Inv-loop n requests largest found₀ i₀ found i = (i ≤ n) × (found ≡ overTo width requests i) × (largest ≡ 2 ^ (width - 1))
 
 abbrev μ-loop : tie.MeasureT-loop
-μ-loop n requests found₀ i₀ found i = n - i
+μ-loop n requests largest found₀ i₀ found i = n - i
 
 pub over-spec : {M : Type 1} → statement M
 over-spec =
@@ -20,11 +20,13 @@ over-spec =
     (tie.spec
     Inv-loop
     μ-loop
-    (λ c. (omega arith, over-none width _))
+    (λ c κs. search needs)
+    (λ c. (omega arith, over-none width _, c .largest-capacity .ensures))
     (λ c. search needs)
     (λ c. search needs)
     (λ c κs. search needs)
     (λ c. search needs)
     (λ c. search needs)
-    (λ c. (search needs, over-more width _ (c .before .before .loop .i) (c .before .before .loop .inv .1) (c .either .ensures)))
+    (λ c. let v = c .before .before .loop in
+    (search needs, over-more width _ (v .i) (v .inv .1) (rw (v .inv .2) at (c .either .ensures)), v .inv .2))
     (λ c. let v = c .before .loop in v .inv .1 ∙ ap (overTo width _) (omega (arith, v .inv .0, c .loop-test .left))))

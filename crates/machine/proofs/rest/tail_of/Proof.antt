@@ -10,4 +10,4 @@ tail-of-spec =
     (λ c κs. search needs)
     (λ c. search needs)
     (λ c. simp (c .before .enum-told .given .1, c .sub .ensures, c .before .before .before .unpack .ensures .high-is))
-    (λ c. search needs))
+    (λ c. simp (c .enum-told2 .given .1)))

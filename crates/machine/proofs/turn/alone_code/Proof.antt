@@ -1,4 +1,4 @@
-use borrow.Author.Tests.{lt-ltb, le-ltb}
+use borrow.Author.Tests.{lt-ltb, le-ltb, le-leb, lt-leb, eq-eqb, ne-eqb}
 use borrow.Author.Needs.{needs}
 use Rattle.machine.proofs.turn.alone_code.Statement.{statement}
 use Rattle.machine.proofs.turn.alone_code.Tie as tie

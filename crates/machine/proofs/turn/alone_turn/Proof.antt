@@ -1,8 +1,6 @@
-use borrow.Author.Tests.{eq-eqb, ne-eqb}
 use borrow.Author.Needs.{needs}
-use mathlib.Core.Path.{sym, ap, _∙_}
-use Rattle.queue.specs.View.{viewKind}
-use Rattle.machine.specs.Desk.{ofLone}
+use borrow.Author.Tests.{eq-eqb, ne-eqb}
+use mathlib.Core.Path.{sym, _∙_}
 use Rattle.machine.proofs.Running.{code-clear}
 use Rattle.machine.proofs.turn.alone_turn.Statement.{statement}
 use Rattle.machine.proofs.turn.alone_turn.Tie as tie
@@ -12,8 +10,10 @@ alone-turn-spec =
     tie.close
     (tie.spec
     (λ c κs. search needs)
-    (λ c κs. let s = c .before .before .before .before .before in let z = code-clear (s .args .ok) (s .args .parties) (s .args .look .who) _ (sym (c .before .before .alone-code .ensures) ∙ c .before .if1 .taken) in s .pre (z .0) (z .1))
+    (λ c κs. let s = c .before .before .before .before .before in
+    let z = code-clear (s .args .ok) (s .args .parties) (s .args .l .who) _ (sym (c .before .before .alone-code .ensures) ∙ c .before .if1 .taken) in
+    s .pre (z .0) (z .1))
     (λ c κs. search needs)
     (λ c. search needs)
-    (λ c. simp (← (c .before .before .before .before .before .before .before .alone-code .ensures), eq-eqb _ _ (c .before .before .before .before .before .before .if1 .taken)) (ap ofLone (c .before .before .before .before .alone .ensures)))
-    (λ c. simp (← (c .before .before .alone-code .ensures), ne-eqb _ _ (c .before .if1 .left), c .as-came .ensures (viewKind (c .before .before .before .before .before .args .kind)) (c .before .before .before .before .before .args .items .now))))
+    (λ c. simp (← (c .before .before .before .before .before .alone-code .ensures), eq-eqb _ _ (c .before .before .before .before .if1 .taken)) (c .before .before .alone .ensures))
+    (λ c. simp (← (c .before .before .alone-code .ensures), ne-eqb _ _ (c .before .if1 .left), c .as-came .ensures)))

@@ -1,6 +1,5 @@
+use borrow.Author.Tests.{lt-ltb, le-ltb, le-leb, lt-leb, eq-eqb, ne-eqb}
 use borrow.Author.Needs.{needs}
-use mathlib.Core.Path.{ap}
-use Rattle.queue.specs.View.{Want}
 use Rattle.machine.proofs.turn.mark_code.Statement.{statement}
 use Rattle.machine.proofs.turn.mark_code.Tie as tie
 
@@ -13,6 +12,19 @@ mark-code-spec =
     (λ c κs. search needs)
     (λ c κs. search needs)
     (λ c κs. search needs)
-    (λ c κs. search needs)
-    (λ c. simp (← (c .before .before .before .before .before .before .is-idle .ensures), c .before .before .before .before .before .if1 .left, ← (ap (λ (x : Want). x .access) (c .before .before .before .before .wants .ensures)), ← (c .before .before .before .wish-of .ensures), ← (c .before .before .is-cas .ensures), ← (c .before .mark-fits .ensures), c .if2 .taken))
-    (λ c. simp (← (c .before .before .before .before .before .before .is-idle .ensures), c .before .before .before .before .before .if1 .left, ← (ap (λ (x : Want). x .access) (c .before .before .before .before .wants .ensures)), ← (c .before .before .before .wish-of .ensures), ← (c .before .before .is-cas .ensures), ← (c .before .mark-fits .ensures), c .if2 .left)))
+    (λ c. simp (
+      ← (c .before .before .before .before .before .is-idle .ensures),
+      c .before .before .before .before .if1 .left,
+      ← (c .before .before .before .wish-of .ensures),
+      ← (c .before .before .is-cas .ensures),
+      ← (c .before .mark-fits .ensures),
+      c .if2 .taken,
+    ))
+    (λ c. simp (
+      ← (c .before .before .before .before .before .is-idle .ensures),
+      c .before .before .before .before .if1 .left,
+      ← (c .before .before .before .wish-of .ensures),
+      ← (c .before .before .is-cas .ensures),
+      ← (c .before .mark-fits .ensures),
+      c .if2 .left,
+    )))

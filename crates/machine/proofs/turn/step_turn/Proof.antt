@@ -1,14 +1,11 @@
 use borrow.Author.Needs.{needs}
 use mathlib.Core.Path.{sym, ap, subst, _∙_}
 use Rattle.words.specs.Edition.{width}
-use Rattle.tables.specs.Row.{Sight}
-use Rattle.queue.specs.View.{viewKind, viewMark}
-use Rattle.machine.specs.Act.{Effects}
-use Rattle.machine.specs.Note.{note}
-use Rattle.machine.specs.Desk.{deskSight, deskStep, Roomy, stepCode, ofDid, asCame}
-use Rattle.machine.specs.View.{viewLook, viewDesk, viewEffect}
+use Rattle.tables.specs.Step.{stepOrder}
+use Rattle.machine.specs.declared.desk.Reached.{Reached}
+use Rattle.machine.specs.Desk.{deskRow, deskStep, Roomy, ofStepped}
 use Rattle.machine.proofs.Noting.{count-fits}
-use Rattle.machine.proofs.Running.{step-drops, code-clear, no-effects-roomy, did-is, act-taken, act-refused}
+use Rattle.machine.proofs.Running.{step-drops, code-clear, no-effects-roomy, stepped-is, act-taken, act-refused}
 use Rattle.machine.proofs.turn.step_turn.Statement.{statement}
 use Rattle.machine.proofs.turn.step_turn.Tie as tie
 
@@ -18,19 +15,29 @@ step-turn-spec =
     (tie.spec
     (λ c κs. search needs)
     (λ c κs. search needs)
-    (λ c κs. let s = c .before .before .before .before .before .before in let z = code-clear (s .args .ok) (s .args .parties) (s .args .look .who) _ (sym (c .before .before .step-code .ensures) ∙ c .before .if1 .taken) in s .pre (z .0) (z .1))
+    (λ c κs. let s = c .before .before .before .before .before .before in let a = s .args in
+    let z = code-clear (a .ok) (a .parties) (a .l .who) _ (sym (c .before .before .step-code .ensures) ∙ c .before .if1 .taken) in
+    (s .pre (z .0) (z .1), c .before .before .before .reached .ensures))
     (λ c κs. search needs)
+    (λ c κs. let s = c .before .before .before .before .before .before .before .before .before .before .before .before in let a = s .args in
+    let o = c .before .before .before .before .before .taken in
+    count-fits (c .no-effects .result) (o .result .effect) (subst Roomy (sym (c .no-effects .ensures)) no-effects-roomy)
+    (step-drops width (a .l) (a .desk) (a .items .now) (a .mark) (o .ensures)))
     (λ c κs. search needs)
-    (λ c κs. let s = c .before .before .before .before .before .before .before .before .before .before .before in let k = viewKind (s .args .kind) in let o = c .before .before .before .before .one in
-    count-fits _ (viewEffect (c .effect-of .result)) (subst Roomy (sym (c .before .no-effects .ensures)) no-effects-roomy)
-    (step-drops width (viewLook (s .args .look)) (s .args .look .who) (s .args .look .from) (viewDesk k (s .args .desk)) (s .args .items .now) (viewMark (s .args .mark)) (o .ensures) (c .effect-of .ensures k (o .last .1 .1 .1 .0))))
     (λ c κs. search needs)
     (λ c. search needs)
-    (λ c. let s = c .before .before .before .before .before .before .before .before .before .before .before .before .before in let k = viewKind (s .args .kind) in let o = c .before .before .before .before .before .before .one in let d = viewDesk k (s .args .desk) in let m = viewMark (s .args .mark) in let did = deskStep width (viewLook (s .args .look)) d (s .args .items .now) m in
-    act-taken (stepCode width (s .args .ok) (s .args .parties) (s .args .look .who) (deskSight d m) (d .party .place)) (ofDid (s .args .look .who) (s .args .look .from) did) (asCame d (s .args .items .now))
-    (c .before .before .before .before .before .before .before .before .before .step-code .ensures ∙ ap (λ (x : Sight). stepCode width (s .args .ok) (s .args .parties) (s .args .look .who) x (d .party .place)) (c .before .before .before .before .before .before .before .before .before .before .sight-of .ensures)) (c .before .before .before .before .before .before .before .before .if1 .taken)
-    (did-is (s .args .look .who) (s .args .look .from) did (o .ensures) (c .before .before .effect-of .ensures k (o .last .1 .1 .1 .0)) (c .before .note .ensures ∙ ap (λ (x : Effects). note x (viewEffect (c .before .before .effect-of .result))) (c .before .before .before .no-effects .ensures))))
-    (λ c. let s = c .before .before .before .before .before .before in let k = viewKind (s .args .kind) in let d = viewDesk k (s .args .desk) in let m = viewMark (s .args .mark) in
-    act-refused (stepCode width (s .args .ok) (s .args .parties) (s .args .look .who) (deskSight d m) (d .party .place)) (ofDid (s .args .look .who) (s .args .look .from) (deskStep width (viewLook (s .args .look)) d (s .args .items .now) m)) (asCame d (s .args .items .now))
-    (c .before .before .step-code .ensures ∙ ap (λ (x : Sight). stepCode width (s .args .ok) (s .args .parties) (s .args .look .who) x (d .party .place)) (c .before .before .before .sight-of .ensures)) (c .before .if1 .left)
-    (c .as-came .ensures k (s .args .items .now))))
+    (λ c. let s = c .before .before .before .before .before .before .before .before .before .before .before .before .before .before in let a = s .args in
+    let did = deskStep width (a .l) (a .desk) (a .items .now) (a .mark) in let z = c .before .before .before .before .before .before .before .before .before in
+    act-taken (stepOrder (a .ok) (a .parties) (a .l .who) (deskRow width (a .desk) (a .mark) .access) (a .mark) (a .desk .party .place))
+    (ofStepped did) (a .desk) (a .items .now)
+    (z .before .step-code .ensures
+    ∙ ap (λ (r : Reached). stepOrder (a .ok) (a .parties) (a .l .who) (r .access) (a .mark) (a .desk .party .place)) (z .before .before .reached .ensures))
+    (z .if1 .taken)
+    (stepped-is did (c .before .before .before .before .before .before .before .taken .ensures) (c .before .before .no-effects .ensures)
+    (c .before .note .ensures) (c .turn-with .ensures)))
+    (λ c. let s = c .before .before .before .before .before .before in let a = s .args in
+    act-refused (stepOrder (a .ok) (a .parties) (a .l .who) (deskRow width (a .desk) (a .mark) .access) (a .mark) (a .desk .party .place))
+    (ofStepped (deskStep width (a .l) (a .desk) (a .items .now) (a .mark))) (a .desk) (a .items .now)
+    (c .before .before .step-code .ensures
+    ∙ ap (λ (r : Reached). stepOrder (a .ok) (a .parties) (a .l .who) (r .access) (a .mark) (a .desk .party .place)) (c .before .before .before .reached .ensures))
+    (c .before .if1 .left) (c .as-came .ensures)))

@@ -6,4 +6,4 @@ pub went-spec : {M : Type 1} → statement M
 went-spec = tie.close (tie.spec
     (λ c κs. search needs)
     (λ c κs. search needs)
-    (λ c k slots items. simp (← (c .before .advance .ensures), c .desk-with .ensures k)))
+    (λ c slots. simp (← (c .before .advance .ensures), c .follows .ensures)))

@@ -21,7 +21,7 @@ advance-spec =
     (λ c. search needs)
     (λ c κs. search needs)
     (λ c. simp (c .before .enum-told .given .1, c .on .ensures))
-    (λ c. simp (c .before .before .place .given .1, c .done-test .ensures))
+    (λ c. simp (c .before .before .place .given .1, c .completed-test .ensures))
     (λ c. simp (c .before .before .place2 .given .1, c .counted .ensures))
     (λ c. simp (c .before .before .place3 .given .1, c .booked .ensures))
     (λ c. simp (c .before .enum-told2 .given .1, c .heads-test .ensures))

@@ -26,10 +26,24 @@ wants-spec =
     (λ c κs. search needs)
     (λ c κs. search needs)
     (λ c κs. search needs)
-    (λ c. simp (c .before .enum-told .given .1, c .theirs .ensures))
-    (λ c. simp (c .before .enum-told2 .given .1, c .theirs2 .ensures))
-    (λ c. simp (c .before .enum-told3 .given .1, c .theirs3 .ensures))
-    (λ c. simp (c .before .before .before .before .before .place .given .1, ← (c .before .before .before .unpack .ensures .high-is), ← (c .before .before .before .unpack .ensures .low-is), ← (c .before .before .add .ensures), ← (c .before .pack .ensures), c .theirs4 .ensures))
-    (λ c. simp (c .before .enum-told4 .given .1, c .theirs5 .ensures))
-    (λ c. simp (c .before .enum-told5 .given .1, c .theirs6 .ensures))
-    (λ c. simp (c .before .before .before .before .before .place2 .given .1, ← (c .before .before .before .unpack2 .ensures .high-is), ← (c .before .before .before .unpack2 .ensures .low-is), ← (c .before .before .add2 .ensures), ← (c .before .pack2 .ensures), c .theirs7 .ensures)))
+    (λ c. simp (c .before .enum-told .given .1, c .source .ensures))
+    (λ c. simp (c .before .enum-told2 .given .1, c .source2 .ensures))
+    (λ c. simp (c .before .enum-told3 .given .1, c .source3 .ensures))
+    (λ c. simp (
+      c .before .before .before .before .before .place .given .1,
+      ← (c .before .before .before .unpack .ensures .high-is),
+      ← (c .before .before .before .unpack .ensures .low-is),
+      ← (c .before .before .add .ensures),
+      ← (c .before .pack .ensures),
+      c .source4 .ensures,
+    ))
+    (λ c. simp (c .before .enum-told4 .given .1, c .source5 .ensures))
+    (λ c. simp (c .before .enum-told5 .given .1, c .source6 .ensures))
+    (λ c. simp (
+      c .before .before .before .before .before .place2 .given .1,
+      ← (c .before .before .before .unpack2 .ensures .high-is),
+      ← (c .before .before .before .unpack2 .ensures .low-is),
+      ← (c .before .before .add2 .ensures),
+      ← (c .before .pack2 .ensures),
+      c .source7 .ensures,
+    )))

@@ -12,5 +12,18 @@ popped-heads-spec =
     (λ c κs. search needs)
     (λ c κs. search needs)
     (λ c κs. search needs)
-    (λ c. simp (← (c .before .before .before .before .before .unpack .ensures .high-is), ← (c .before .before .before .before .before .unpack .ensures .low-is), ← (c .before .before .before .before .add .ensures), eq-eqb _ _ (c .before .before .if1 .taken), ← (c .before .add2 .ensures), c .pack .ensures))
-    (λ c. simp (← (c .before .before .before .before .unpack .ensures .high-is), ← (c .before .before .before .before .unpack .ensures .low-is), ← (c .before .before .before .add .ensures), ne-eqb _ _ (c .before .if1 .left), c .pack2 .ensures)))
+    (λ c. simp (
+      ← (c .before .before .before .before .before .unpack .ensures .high-is),
+      ← (c .before .before .before .before .before .unpack .ensures .low-is),
+      ← (c .before .before .before .before .add .ensures),
+      eq-eqb _ _ (c .before .before .if1 .taken),
+      ← (c .before .add2 .ensures),
+      c .pack .ensures,
+    ))
+    (λ c. simp (
+      ← (c .before .before .before .before .unpack .ensures .high-is),
+      ← (c .before .before .before .before .unpack .ensures .low-is),
+      ← (c .before .before .before .add .ensures),
+      ne-eqb _ _ (c .before .if1 .left),
+      c .pack2 .ensures,
+    )))

@@ -9,4 +9,4 @@ booked-spec =
     (λ c κs. search needs)
     (λ c κs. search needs)
     (λ c. simp (c .before .before .if1 .taken, ← (c .before .unpack .ensures .low-is), c .booked .ensures))
-    (λ c. simp (c .before .if1 .left, c .done-test .ensures)))
+    (λ c. simp (c .before .if1 .left, c .completed-test .ensures)))

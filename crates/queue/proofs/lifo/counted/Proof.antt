@@ -11,9 +11,34 @@ counted-spec =
     (λ c κs. search needs)
     (λ c κs. search needs)
     (λ c κs. search needs)
-    (λ c. simp (← (c .before .before .before .before .unpack .ensures .high-is), ← (c .before .before .before .before .unpack .ensures .low-is), ← (c .before .before .before .sub .ensures), ← (c .before .before .sub2 .ensures), eq-eqb _ _ (c .before .if1 .taken), c .ends .ensures))
+    (λ c. simp (
+      ← (c .before .before .before .before .unpack .ensures .high-is),
+      ← (c .before .before .before .before .unpack .ensures .low-is),
+      ← (c .before .before .before .sub .ensures),
+      ← (c .before .before .sub2 .ensures),
+      eq-eqb _ _ (c .before .if1 .taken),
+      c .ends .ensures,
+    ))
     (λ c κs. search needs)
     (λ c κs. search needs)
-    (λ c. simp (← (c .before .before .before .before .before .before .unpack .ensures .high-is), ← (c .before .before .before .before .before .before .unpack .ensures .low-is), ← (c .before .before .before .before .before .sub .ensures), ← (c .before .before .before .before .sub2 .ensures), ne-eqb _ _ (c .before .before .before .if1 .left), ← (c .before .before .count-of .ensures), eq-eqb _ _ (c .before .if2 .taken), c .ends2 .ensures))
+    (λ c. simp (
+      ← (c .before .before .before .before .before .before .unpack .ensures .high-is),
+      ← (c .before .before .before .before .before .before .unpack .ensures .low-is),
+      ← (c .before .before .before .before .before .sub .ensures),
+      ← (c .before .before .before .before .sub2 .ensures),
+      ne-eqb _ _ (c .before .before .before .if1 .left),
+      ← (c .before .before .count-of .ensures),
+      eq-eqb _ _ (c .before .if2 .taken),
+      c .ends2 .ensures,
+    ))
     (λ c κs. search needs)
-    (λ c. simp (← (c .before .before .before .before .before .before .unpack .ensures .high-is), ← (c .before .before .before .before .before .before .unpack .ensures .low-is), ← (c .before .before .before .before .before .sub .ensures), ← (c .before .before .before .before .sub2 .ensures), ne-eqb _ _ (c .before .before .before .if1 .left), ← (c .before .before .count-of .ensures), ne-eqb _ _ (c .before .if2 .left), c .on .ensures)))
+    (λ c. simp (
+      ← (c .before .before .before .before .before .before .unpack .ensures .high-is),
+      ← (c .before .before .before .before .before .before .unpack .ensures .low-is),
+      ← (c .before .before .before .before .before .sub .ensures),
+      ← (c .before .before .before .before .sub2 .ensures),
+      ne-eqb _ _ (c .before .before .before .if1 .left),
+      ← (c .before .before .count-of .ensures),
+      ne-eqb _ _ (c .before .if2 .left),
+      c .on .ensures,
+    )))

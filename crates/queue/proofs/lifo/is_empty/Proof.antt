@@ -11,5 +11,17 @@ is-empty-spec =
     (λ c κs. search needs)
     (λ c κs. search needs)
     (λ c κs. search needs)
-    (λ c. simp (← (c .before .before .before .before .unpack .ensures .high-is), ← (c .before .before .before .before .unpack .ensures .low-is), ← (c .before .before .before .sub .ensures), eq-eqb _ _ (c .before .if1 .taken), c .ends .ensures))
-    (λ c. simp (← (c .before .before .before .before .unpack .ensures .high-is), ← (c .before .before .before .before .unpack .ensures .low-is), ← (c .before .before .before .sub .ensures), ne-eqb _ _ (c .before .if1 .left), c .ends2 .ensures)))
+    (λ c. simp (
+      ← (c .before .before .before .before .unpack .ensures .high-is),
+      ← (c .before .before .before .before .unpack .ensures .low-is),
+      ← (c .before .before .before .sub .ensures),
+      eq-eqb _ _ (c .before .if1 .taken),
+      c .ends .ensures,
+    ))
+    (λ c. simp (
+      ← (c .before .before .before .before .unpack .ensures .high-is),
+      ← (c .before .before .before .before .unpack .ensures .low-is),
+      ← (c .before .before .before .sub .ensures),
+      ne-eqb _ _ (c .before .if1 .left),
+      c .ends2 .ensures,
+    )))

@@ -12,5 +12,17 @@ loaded-spec =
     (λ c κs. search needs)
     (λ c. search needs)
     (λ c κs. search needs)
-    (λ c. simp (← (c .before .before .before .before .before .unpack .ensures .high-is), ← (c .before .before .before .before .before .unpack .ensures .low-is), ← (c .before .before .before .before .sub .ensures), c .before .before .job .given .1, c .filled .ensures))
-    (λ c. simp (← (c .before .before .before .before .before .unpack .ensures .high-is), ← (c .before .before .before .before .before .unpack .ensures .low-is), ← (c .before .before .before .before .sub .ensures), c .before .before .job2 .given .1, c .brought .ensures)))
+    (λ c. simp (
+      ← (c .before .before .before .before .before .unpack .ensures .high-is),
+      ← (c .before .before .before .before .before .unpack .ensures .low-is),
+      ← (c .before .before .before .before .sub .ensures),
+      c .before .before .call .given .1,
+      c .filled .ensures,
+    ))
+    (λ c. simp (
+      ← (c .before .before .before .before .before .unpack .ensures .high-is),
+      ← (c .before .before .before .before .before .unpack .ensures .low-is),
+      ← (c .before .before .before .before .sub .ensures),
+      c .before .before .call2 .given .1,
+      c .brought .ensures,
+    )))

@@ -25,11 +25,18 @@ wants-spec =
     (λ c κs. search needs)
     (λ c. search needs)
     (λ c κs. search needs)
-    (λ c. simp (c .before .enum-told .given .1, c .mine .ensures))
-    (λ c. simp (c .before .enum-told2 .given .1, c .mine2 .ensures))
-    (λ c. simp (c .before .enum-told3 .given .1, c .mine3 .ensures))
-    (λ c. simp (c .before .enum-told4 .given .1, c .mine4 .ensures))
-    (λ c. simp (c .before .enum-told5 .given .1, c .mine5 .ensures))
-    (λ c. simp (c .before .before .before .before .before .place .given .1, ← (c .before .before .before .unpack .ensures .high-is), ← (c .before .before .before .unpack .ensures .low-is), ← (c .before .before .add .ensures), ← (c .before .pack .ensures), c .mine6 .ensures))
-    (λ c. simp (c .before .enum-told6 .given .1, c .mine7 .ensures))
-    (λ c. simp (c .before .enum-told7 .given .1, c .mine8 .ensures)))
+    (λ c. simp (c .before .enum-told .given .1, c .own .ensures))
+    (λ c. simp (c .before .enum-told2 .given .1, c .own2 .ensures))
+    (λ c. simp (c .before .enum-told3 .given .1, c .own3 .ensures))
+    (λ c. simp (c .before .enum-told4 .given .1, c .own4 .ensures))
+    (λ c. simp (c .before .enum-told5 .given .1, c .own5 .ensures))
+    (λ c. simp (
+      c .before .before .before .before .before .place .given .1,
+      ← (c .before .before .before .unpack .ensures .high-is),
+      ← (c .before .before .before .unpack .ensures .low-is),
+      ← (c .before .before .add .ensures),
+      ← (c .before .pack .ensures),
+      c .own6 .ensures,
+    ))
+    (λ c. simp (c .before .enum-told6 .given .1, c .own7 .ensures))
+    (λ c. simp (c .before .enum-told7 .given .1, c .own8 .ensures)))

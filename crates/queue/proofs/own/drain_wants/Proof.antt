@@ -7,5 +7,5 @@ pub drain-wants-spec : {M : Type 1} → statement M
 drain-wants-spec = tie.close (tie.spec
     (λ c κs. search needs)
     (λ c κs. search needs)
-    (λ c. (simp (eq-eqb _ _ (c .before .if1 .taken), c .mine .ensures), simp (eq-eqb _ _ (c .before .if1 .taken), c .mine .ensures)))
-    (λ c. (simp (ne-eqb _ _ (c .before .if1 .left), c .mine2 .ensures), simp (ne-eqb _ _ (c .before .if1 .left), c .mine2 .ensures))))
+    (λ c. (simp (eq-eqb _ _ (c .before .if1 .taken), c .own .ensures), simp (eq-eqb _ _ (c .before .if1 .taken), c .own .ensures)))
+    (λ c. (simp (ne-eqb _ _ (c .before .if1 .left), c .own2 .ensures), simp (ne-eqb _ _ (c .before .if1 .left), c .own2 .ensures))))

@@ -17,7 +17,13 @@ extended-spec =
     (λ c κs. search needs)
     (λ c. search needs)
     (λ c κs. search needs)
-    (λ c. simp (c .before .before .before .before .before .mark .given .1, ← (c .before .before .before .add .ensures), ← (c .before .before .add2 .ensures), ← (c .before .extending .ensures), c .on .ensures))
+    (λ c. simp (
+      c .before .before .before .before .before .mark .given .1,
+      ← (c .before .before .before .add .ensures),
+      ← (c .before .before .add2 .ensures),
+      ← (c .before .extending .ensures),
+      c .on .ensures,
+    ))
     (λ c. simp (c .before .enum-told .given .1, c .on2 .ensures))
     (λ c. simp (c .before .enum-told2 .given .1, c .on3 .ensures))
     (λ c. simp (c .before .enum-told3 .given .1, c .on4 .ensures)))

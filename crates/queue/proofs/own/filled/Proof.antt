@@ -16,6 +16,6 @@ filled-spec =
     (λ c κs. search needs)
     (λ c κs. search needs)
     (λ c κs. search needs)
-    (λ c. simp (c .before .before .fill .given .1, c .push-room .ensures))
+    (λ c. simp (c .before .before .call .given .1, c .push-room .ensures))
     (λ c. simp (c .before .before .before .enum-told .given .1, ← (c .before .before .add .ensures), ← (c .before .extending .ensures), c .on .ensures))
     (λ c. simp (c .before .before .before .enum-told2 .given .1, ← (c .before .before .sub .ensures), ← (c .before .sub2 .ensures), c .ends .ensures)))

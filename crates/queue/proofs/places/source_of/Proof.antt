@@ -22,6 +22,6 @@ source-of-spec =
     (λ c. simp (c .before .before .place .given .1, c .lifo-source .ensures))
     (λ c. simp (c .before .before .place2 .given .1, c .fifo-source .ensures))
     (λ c. search needs)
-    (λ c. simp (c .before .before .place3 .given .1, c .goal-source .ensures))
+    (λ c. simp (c .before .before .place3 .given .1, c .booking-source .ensures))
     (λ c. search needs)
-    (λ c. simp (c .before .before .place5 .given .1, c .ending-source .ensures)))
+    (λ c. simp (c .before .before .place5 .given .1, c .closing-source .ensures)))

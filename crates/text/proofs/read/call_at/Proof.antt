@@ -8,20 +8,59 @@ call-at-spec =
     tie.close
     (tie.spec
     (λ c κs. search needs)
-    (λ c. simp (c .before .before .next-field .ensures, eq-eqb _ _ (c .if1 .taken)))
+    (λ c. simp (c .before .next-field .ensures, eq-eqb _ _ (c .if1 .taken)))
     (λ c κs. search needs)
     (λ c κs. search needs)
-    (λ c. simp (c .before .before .before .before .before .before .next-field .ensures, ne-eqb _ _ (c .before .before .before .before .if1 .left), eq-eqb _ _ (c .before .before .if2 .taken), ← (c .before .last-number .ensures), c .push-call .ensures))
     (λ c κs. search needs)
     (λ c κs. search needs)
-    (λ c. simp (c .before .before .before .before .before .before .before .before .next-field .ensures, ne-eqb _ _ (c .before .before .before .before .before .before .if1 .left), ne-eqb _ _ (c .before .before .before .before .if2 .left), eq-eqb _ _ (c .before .before .if3 .taken), ← (c .before .rule-at .ensures), c .drain-call .ensures))
     (λ c κs. search needs)
     (λ c κs. search needs)
-    (λ c. simp (c .before .before .before .before .before .before .before .before .before .before .next-field .ensures, ne-eqb _ _ (c .before .before .before .before .before .before .before .before .if1 .left), ne-eqb _ _ (c .before .before .before .before .before .before .if2 .left), ne-eqb _ _ (c .before .before .before .before .if3 .left), eq-eqb _ _ (c .before .before .if4 .taken), ← (c .before .aim-at .ensures), c .steal-call .ensures))
     (λ c κs. search needs)
     (λ c κs. search needs)
-    (λ c. simp (c .before .before .before .before .before .before .before .before .before .before .before .before .next-field .ensures, ne-eqb _ _ (c .before .before .before .before .before .before .before .before .before .before .if1 .left), ne-eqb _ _ (c .before .before .before .before .before .before .before .before .if2 .left), ne-eqb _ _ (c .before .before .before .before .before .before .if3 .left), ne-eqb _ _ (c .before .before .before .before .if4 .left), eq-eqb _ _ (c .before .before .if5 .taken), ← (c .before .aim-at2 .ensures), c .take-call .ensures))
     (λ c κs. search needs)
     (λ c κs. search needs)
-    (λ c. simp (c .before .before .before .before .before .before .before .before .before .before .before .before .before .next-field .ensures, ne-eqb _ _ (c .before .before .before .before .before .before .before .before .before .before .before .if1 .left), ne-eqb _ _ (c .before .before .before .before .before .before .before .before .before .if2 .left), ne-eqb _ _ (c .before .before .before .before .before .before .before .if3 .left), ne-eqb _ _ (c .before .before .before .before .before .if4 .left), ne-eqb _ _ (c .before .before .before .if5 .left), ← (c .before .before .is-end .ensures), c .before .if6 .taken, c .plain-call .ensures))
-    (λ c. simp (c .before .before .before .before .before .before .before .before .before .before .before .before .next-field .ensures, ne-eqb _ _ (c .before .before .before .before .before .before .before .before .before .before .if1 .left), ne-eqb _ _ (c .before .before .before .before .before .before .before .before .if2 .left), ne-eqb _ _ (c .before .before .before .before .before .before .if3 .left), ne-eqb _ _ (c .before .before .before .before .if4 .left), ne-eqb _ _ (c .before .before .if5 .left), ← (c .before .is-end .ensures), c .if6 .left)))
+    (λ c. simp (
+      c .before .before .before .before .next-field .ensures,
+      c .before .before .match .keys1,
+      ← (c .before .last-number .ensures),
+      c .push-call .ensures,
+    ))
+    (λ c. simp (
+      c .before .before .before .before .next-field .ensures,
+      c .before .before .match .keys2,
+      ← (c .before .rule-at .ensures),
+      c .drain-call .ensures,
+    ))
+    (λ c. simp (
+      c .before .before .before .before .next-field .ensures,
+      c .before .before .match .keys3,
+      ← (c .before .aim-at .ensures),
+      c .steal-call .ensures,
+    ))
+    (λ c. simp (
+      c .before .before .before .before .next-field .ensures,
+      c .before .before .match .keys4,
+      ← (c .before .aim-at2 .ensures),
+      c .take-call .ensures,
+    ))
+    (λ c. simp (
+      c .before .before .before .before .before .next-field .ensures,
+      ne-eqb _ _ (c .before .before .before .before .if1 .left),
+      ne-eqb _ _ (c .before .before .before .match .rest .0 .0 .0 .1),
+      ne-eqb _ _ (c .before .before .before .match .rest .0 .0 .1),
+      ne-eqb _ _ (c .before .before .before .match .rest .0 .1),
+      ne-eqb _ _ (c .before .before .before .match .rest .1),
+      ← (c .before .before .is-end .ensures),
+      c .before .if2 .taken,
+      c .plain-call .ensures,
+    ))
+    (λ c. simp (
+      c .before .before .before .before .next-field .ensures,
+      ne-eqb _ _ (c .before .before .before .if1 .left),
+      ne-eqb _ _ (c .before .before .match .rest .0 .0 .0 .1),
+      ne-eqb _ _ (c .before .before .match .rest .0 .0 .1),
+      ne-eqb _ _ (c .before .before .match .rest .0 .1),
+      ne-eqb _ _ (c .before .before .match .rest .1),
+      ← (c .before .is-end .ensures),
+      c .if2 .left,
+    )))

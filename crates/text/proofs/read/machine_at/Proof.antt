@@ -12,4 +12,10 @@ machine-at-spec =
     (λ c κs. search needs)
     (λ c κs. search needs)
     (λ c κs. search needs)
-    (λ c. simp (c .before .before .before .before .before .next-field .ensures, ne-eqb _ _ (c .before .before .before .if1 .left), ← (c .before .before .kind-of .ensures), ← (c .before .last-number .ensures), c .machine-of .ensures)))
+    (λ c. simp (
+      c .before .before .before .before .before .next-field .ensures,
+      ne-eqb _ _ (c .before .before .before .if1 .left),
+      ← (c .before .before .kind-of .ensures),
+      ← (c .before .last-number .ensures),
+      c .machine-of .ensures,
+    )))

@@ -11,8 +11,27 @@ mark-at-spec =
     (λ c. simp (c .before .before .next-field .ensures, eq-eqb _ _ (c .if1 .taken)))
     (λ c κs. search needs)
     (λ c κs. search needs)
-    (λ c. simp (c .before .before .before .before .before .before .next-field .ensures, ne-eqb _ _ (c .before .before .before .before .if1 .left), eq-eqb _ _ (c .before .before .if2 .taken), ← (c .before .last-number .ensures), c .given-mark .ensures))
+    (λ c. simp (
+      c .before .before .before .before .before .before .next-field .ensures,
+      ne-eqb _ _ (c .before .before .before .before .if1 .left),
+      eq-eqb _ _ (c .before .before .if2 .taken),
+      ← (c .before .last-number .ensures),
+      c .given-mark .ensures,
+    ))
     (λ c κs. search needs)
     (λ c κs. search needs)
-    (λ c. simp (c .before .before .before .before .before .before .before .next-field .ensures, ne-eqb _ _ (c .before .before .before .before .before .if1 .left), ne-eqb _ _ (c .before .before .before .if2 .left), ← (c .before .before .is-end .ensures), c .before .if3 .taken, c .plain-mark .ensures))
-    (λ c. simp (c .before .before .before .before .before .before .next-field .ensures, ne-eqb _ _ (c .before .before .before .before .if1 .left), ne-eqb _ _ (c .before .before .if2 .left), ← (c .before .is-end .ensures), c .if3 .left)))
+    (λ c. simp (
+      c .before .before .before .before .before .before .before .next-field .ensures,
+      ne-eqb _ _ (c .before .before .before .before .before .if1 .left),
+      ne-eqb _ _ (c .before .before .before .if2 .left),
+      ← (c .before .before .is-end .ensures),
+      c .before .if3 .taken,
+      c .plain-mark .ensures,
+    ))
+    (λ c. simp (
+      c .before .before .before .before .before .before .next-field .ensures,
+      ne-eqb _ _ (c .before .before .before .before .if1 .left),
+      ne-eqb _ _ (c .before .before .if2 .left),
+      ← (c .before .is-end .ensures),
+      c .if3 .left,
+    )))

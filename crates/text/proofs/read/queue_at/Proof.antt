@@ -11,5 +11,11 @@ queue-at-spec =
     (λ c. simp (c .before .before .next-field .ensures, eq-eqb _ _ (c .if1 .taken)))
     (λ c κs. search needs)
     (λ c κs. search needs)
-    (λ c. simp (c .before .before .before .before .before .next-field .ensures, ne-eqb _ _ (c .before .before .before .if1 .left), c .before .before .if2 .taken, ← (c .before .last-number .ensures), c .queue-of .ensures))
+    (λ c. simp (
+      c .before .before .before .before .before .next-field .ensures,
+      ne-eqb _ _ (c .before .before .before .if1 .left),
+      c .before .before .if2 .taken,
+      ← (c .before .last-number .ensures),
+      c .queue-of .ensures,
+    ))
     (λ c. simp (c .before .before .before .next-field .ensures, ne-eqb _ _ (c .before .if1 .left), c .if2 .left)))

@@ -13,5 +13,18 @@ rule-at-spec =
     (λ c. simp (c .before .before .before .before .before .next-field .ensures, ne-eqb _ _ (c .before .before .before .if1 .left), eq-eqb _ _ (c .before .if2 .taken), c .fixed-rule .ensures))
     (λ c κs. search needs)
     (λ c κs. search needs)
-    (λ c. simp (c .before .before .before .before .before .before .before .next-field .ensures, ne-eqb _ _ (c .before .before .before .before .before .if1 .left), ne-eqb _ _ (c .before .before .before .if2 .left), ← (c .before .before .is-end .ensures), c .before .if3 .taken, c .plain-rule .ensures))
-    (λ c. simp (c .before .before .before .before .before .before .next-field .ensures, ne-eqb _ _ (c .before .before .before .before .if1 .left), ne-eqb _ _ (c .before .before .if2 .left), ← (c .before .is-end .ensures), c .if3 .left)))
+    (λ c. simp (
+      c .before .before .before .before .before .before .before .next-field .ensures,
+      ne-eqb _ _ (c .before .before .before .before .before .if1 .left),
+      ne-eqb _ _ (c .before .before .before .if2 .left),
+      ← (c .before .before .is-end .ensures),
+      c .before .if3 .taken,
+      c .plain-rule .ensures,
+    ))
+    (λ c. simp (
+      c .before .before .before .before .before .before .next-field .ensures,
+      ne-eqb _ _ (c .before .before .before .before .if1 .left),
+      ne-eqb _ _ (c .before .before .if2 .left),
+      ← (c .before .is-end .ensures),
+      c .if3 .left,
+    )))

@@ -13,7 +13,14 @@ acts-spec =
     (λ c κs. search needs)
     (λ c. search needs)
     (λ c. search needs)
-    (λ c. simp (← (c .before .before .before .before .before .before .before .before .before .before .is-runs .ensures), c .before .before .before .before .before .before .before .before .before .if1 .taken, ← (c .before .before .before .before .before .before .before .apply .ensures)) (record { state-is = refl; wrote = c .before .before .put-outcome .ensures .0; near = c .before .before .put-outcome .ensures .1 }))
+    (λ c.
+    simp (
+      ← (c .before .before .before .before .before .before .before .before .before .before .before .is-running .ensures),
+      c .before .before .before .before .before .before .before .before .before .before .if1 .taken,
+      ← (c .before .before .before .before .before .before .before .before .apply .ensures),
+    )
+    (record { state-is = refl; wrote = c .before .before .put-outcome .ensures .0; near = c .before .before .put-outcome .ensures .1 }))
     (λ c κs. search needs)
     (λ c. search needs)
-    (λ c. simp (← (c .before .before .before .before .before .before .is-runs .ensures), c .before .before .before .before .before .if1 .left) (stays-as _ _ (c .before .before .before .misplaced .ensures))))
+    (λ c. simp (← (c .before .before .before .before .before .before .is-running .ensures), c .before .before .before .before .before .if1 .left)
+    (stays-as _ _ (c .before .before .before .misplaced .ensures))))

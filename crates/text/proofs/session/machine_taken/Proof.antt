@@ -10,6 +10,6 @@ machine-taken-spec =
     (λ c κs. search needs)
     (λ c κs. search needs)
     (λ c. search needs)
-    (λ c. simp (← (c .before .before .before .before .before .is-machines .ensures), c .before .before .before .before .if1 .taken) (c .before .before .machine-asked .ensures))
+    (λ c. simp (← (c .before .before .before .before .before .wants-machine .ensures), c .before .before .before .before .if1 .taken) (c .before .before .machine-asked .ensures))
     (λ c. search needs)
-    (λ c. simp (← (c .before .before .before .before .before .is-machines .ensures), c .before .before .before .before .if1 .left) (c .before .before .misplaced .ensures)))
+    (λ c. simp (← (c .before .before .before .before .before .wants-machine .ensures), c .before .before .before .before .if1 .left) (c .before .before .misplaced .ensures)))

@@ -20,5 +20,9 @@ misplaced-spec =
     (λ c. search needs)
     (λ c. simp (c .before .before .before .before .enum-told2 .given .1) (c .before .before .ends2 .ensures))
     (λ c. search needs)
-    (λ c. simp (c .before .before .before .before .enum-told3 .given .1) (record { session-is = refl; wrote = c .before .before .put-refused .ensures .0; near = c .before .before .put-refused .ensures .1 }))
+    (λ c. simp (c .before .before .before .before .enum-told3 .given .1) (record {
+      session-is = refl;
+      wrote = c .before .before .put-refused .ensures .0;
+      near = c .before .before .put-refused .ensures .1;
+    }))
     (λ c. simp (c .enum-told4 .given .1) (told-none _ _ refl)))

@@ -1,10 +1,10 @@
-use Rattle.text.specs.Session.{opens}
+use borrow.Author.Needs.{needs}
+use mathlib.Core.Path.{refl}
 use native.Mathlib.Omega.{arith}
+use borrow.Author.Tests.{eq-eqb, ne-eqb}
+use Rattle.text.specs.Session.{opens}
 use Rattle.text.proofs.Writing.{wrote-none}
 use Rattle.text.proofs.Sessions.{stays-as}
-use borrow.Author.Tests.{eq-eqb, ne-eqb}
-use mathlib.Core.Path.{refl}
-use borrow.Author.Needs.{needs}
 use Rattle.text.proofs.session.opens.Statement.{statement}
 use Rattle.text.proofs.session.opens.Tie as tie
 
@@ -15,8 +15,14 @@ opens-spec =
     (tie.spec
     (λ c κs. search needs)
     (λ c κs. search needs)
-    (λ c. λ xs e. simp (e, ← (c .before .before .before .before .«open» .ensures), eq-eqb _ _ (c .before .before .if1 .taken), c .at-stage .ensures) (record { state-is = refl; wrote = wrote-none _ _; near = omega arith }))
+    (λ c.
+    simp (← (c .before .before .before .before .«open» .ensures), eq-eqb _ _ (c .before .before .if1 .taken), c .at-stage .ensures)
+    (record { state-is = refl; wrote = wrote-none _ _; near = omega arith }))
     (λ c. search needs)
     (λ c κs. search needs)
     (λ c. search needs)
-    (λ c. λ xs e. simp (e, ← (c .before .before .before .before .before .before .before .before .«open» .ensures), ne-eqb _ _ (c .before .before .before .before .before .before .if1 .left)) (stays-as _ xs (c .before .before .before .ends .ensures))))
+    (λ c.
+    simp (
+      ← (c .before .before .before .before .before .before .before .before .«open» .ensures),
+      ne-eqb _ _ (c .before .before .before .before .before .before .if1 .left),
+    ) (stays-as _ _ (c .before .before .before .ends .ensures))))

@@ -13,7 +13,15 @@ put-outcome-spec =
     (λ c. (simp (eq-eqb _ _ (c .before .before .if1 .taken), ← (c .before .is-pending .ensures), c .if2 .taken) (wrote-none _ _), omega arith))
     (λ c κs. search needs)
     (λ c. search needs)
-    (λ c. (simp (eq-eqb _ _ (c .before .before .before .before .before .before .if1 .taken), ← (c .before .before .before .before .before .is-pending .ensures), c .before .before .before .before .if2 .left) (c .before .before .put-answer .ensures .0), c .before .before .put-answer .ensures .1))
+    (λ c. (
+      simp (
+        eq-eqb _ _ (c .before .before .before .before .before .before .if1 .taken),
+        ← (c .before .before .before .before .before .is-pending .ensures),
+        c .before .before .before .before .if2 .left,
+      )
+          (c .before .before .put-answer .ensures .0),
+      c .before .before .put-answer .ensures .1,
+    ))
     (λ c κs. search needs)
     (λ c. search needs)
     (λ c. (simp (ne-eqb _ _ (c .before .before .before .before .if1 .left)) (c .before .before .put-refused .ensures .0), c .before .before .put-refused .ensures .1)))

@@ -25,7 +25,10 @@ same-length : tie.Need-same-length
 same-length c = search needs
 
 returns : tie.Need-returns
-returns c = wrote-part _ _ _ (c .before .before .before .before .before .before .before .digits .result) _ _ _ (c .before .before .put-bytes .ensures) (c .before .before .before .before .before .before .before .digits .ensures .2) (c .before .before .before .before .before .before .before .digits .ensures .0) (c .before .before .before .before .before .before .before .digits .ensures .1)
+returns c = wrote-part _ _ _ (c .before .before .before .before .before .before .before .digits .result) _ _ _ (c .before .before .put-bytes .ensures)
+    (c .before .before .before .before .before .before .before .digits .ensures .2)
+    (c .before .before .before .before .before .before .before .digits .ensures .0)
+    (c .before .before .before .before .before .before .before .digits .ensures .1)
 
 pub put-decimal-spec : {M : Type 1} → statement M
 put-decimal-spec =

@@ -17,4 +17,15 @@ put-refused-spec =
     (λ c. search needs)
     (λ c κs. search needs)
     (λ c. search needs)
-    (λ c. (then (c .before .before .before .before .before .before .before .before .before .before .before .before .before .before .before .put-bytes .ensures) (then (c .before .before .before .before .before .before .before .before .before .before .before .put-field .ensures .0) (then (c .before .before .before .before .before .before .before .put-field2 .ensures .0) (c .before .before .put-bytes2 .ensures))), omega (arith, c .before .before .put-bytes2 .ensures .after, c .before .before .before .before .before .before .before .put-field2 .ensures .1, c .before .before .before .before .before .before .before .before .before .before .before .put-field .ensures .1, c .before .before .before .before .before .before .before .before .before .before .before .before .before .before .before .put-bytes .ensures .after))))
+    (λ c. (
+      then (c .before .before .before .before .before .before .before .before .before .before .before .before .before .before .before .put-bytes .ensures)
+          (then (c .before .before .before .before .before .before .before .before .before .before .before .put-field .ensures .0)
+          (then (c .before .before .before .before .before .before .before .put-field2 .ensures .0) (c .before .before .put-bytes2 .ensures))),
+      omega (
+        arith,
+        c .before .before .put-bytes2 .ensures .after,
+        c .before .before .before .before .before .before .before .put-field2 .ensures .1,
+        c .before .before .before .before .before .before .before .before .before .before .before .put-field .ensures .1,
+        c .before .before .before .before .before .before .before .before .before .before .before .before .before .before .before .put-bytes .ensures .after,
+      ),
+    )))

@@ -12,4 +12,11 @@ put-rest-spec =
     (λ c κs. search needs)
     (λ c κs. search needs)
     (λ c. search needs)
-    (λ c. (then (c .before .before .before .before .before .before .put-bytes .ensures) (c .before .before .put-field .ensures .0), omega (arith, c .before .before .put-field .ensures .1, c .before .before .before .before .before .before .put-bytes .ensures .after))))
+    (λ c. (
+      then (c .before .before .before .before .before .before .put-bytes .ensures) (c .before .before .put-field .ensures .0),
+      omega (
+        arith,
+        c .before .before .put-field .ensures .1,
+        c .before .before .before .before .before .before .put-bytes .ensures .after,
+      ),
+    )))

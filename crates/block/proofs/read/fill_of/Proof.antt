@@ -1,9 +1,0 @@
-use borrow.Author.Tests.{eq-eqb, ne-eqb}
-use Rattle.block.proofs.read.fill_of.Statement.{statement}
-use Rattle.block.proofs.read.fill_of.Tie as tie
-
-pub fill-of-spec : {M : Type 1} → statement M
-fill-of-spec = tie.close (tie.spec
-    (λ c. simp (eq-eqb _ _ (c .if1 .taken)))
-    (λ c. simp (ne-eqb _ _ (c .before .before .if1 .left), eq-eqb _ _ (c .if2 .taken)))
-    (λ c. simp (ne-eqb _ _ (c .before .before .if1 .left), ne-eqb _ _ (c .if2 .left))))

@@ -1,8 +1,0 @@
-use borrow.Author.Tests.{le-leb, lt-leb}
-use Rattle.machine.proofs.test.bound.Statement.{statement}
-use Rattle.machine.proofs.test.bound.Tie as tie
-
-pub bound-spec : {M : Type 1} → statement M
-bound-spec = tie.close (tie.spec
-    (λ c. simp (le-leb _ _ (c .if1 .taken)))
-    (λ c. simp (lt-leb _ _ (c .if1 .left))))
