@@ -197,7 +197,7 @@ fn print_state(out: &mut impl Write, machine: &Machine) -> io::Result<()> {
     let mut slots = machine.items();
     for queue in 0..machine.parties() {
         let words = machine.words(queue);
-        write!(out, "state\t{queue}\t{}\t{}\t{}\t{}", words.capacity, words.count, words.packed, words.done)?;
+        write!(out, "state\t{queue}\t{}\t{}\t{}\t{}", words.capacity, words.pushes, words.packed, words.completed)?;
         let (own, others) = slots.split_at(words.capacity as usize);
         for token in own {
             write!(out, "\t{token}")?;

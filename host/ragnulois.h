@@ -79,17 +79,17 @@ enum ragnulois_answer {
 };
 
 /* What an effect did; in brackets its value. */
-enum ragnulois_deed {
-    RAGNULOIS_DEED_NOTHING = 0,
-    RAGNULOIS_DEED_OFFERED = 1, /* [token] */
-    RAGNULOIS_DEED_ACCEPTED = 2,
-    RAGNULOIS_DEED_POPPED = 3,
-    RAGNULOIS_DEED_BOOKED = 4,      /* [count] */
-    RAGNULOIS_DEED_LANDED = 5,      /* [count] */
-    RAGNULOIS_DEED_LANDED_LAST = 6, /* [count], and one more in hand */
-    RAGNULOIS_DEED_DRAINED = 7,
-    RAGNULOIS_DEED_DROPPED = 8, /* [count] */
-    RAGNULOIS_DEED_CLOSED = 9
+enum ragnulois_change {
+    RAGNULOIS_CHANGE_NOTHING = 0,
+    RAGNULOIS_CHANGE_OFFERED = 1, /* [token] */
+    RAGNULOIS_CHANGE_ACCEPTED = 2,
+    RAGNULOIS_CHANGE_POPPED = 3,
+    RAGNULOIS_CHANGE_BOOKED = 4,      /* [count] */
+    RAGNULOIS_CHANGE_LANDED = 5,      /* [count] */
+    RAGNULOIS_CHANGE_TAKE_LANDED = 6, /* [count], and one more in hand */
+    RAGNULOIS_CHANGE_DRAINED = 7,
+    RAGNULOIS_CHANGE_DROPPED = 8, /* [count] */
+    RAGNULOIS_CHANGE_CLOSED = 9
 };
 
 enum ragnulois_refusal {
@@ -113,15 +113,15 @@ enum ragnulois_in_reply {
     RAGNULOIS_REPLY_COUNT = 2,
     RAGNULOIS_REPLY_STEPS = 3, /* of a run alone */
     RAGNULOIS_REPLY_EFFECTS = 4,
-    RAGNULOIS_REPLY_EFFECT = 5 /* party, queue, deed, value */
+    RAGNULOIS_REPLY_EFFECT = 5 /* party, queue, change, value */
 };
 
 /* The words of a queue. Packed is the pop count and the booked head (LIFO), or the worker's and the stealer's head (FIFO). */
 enum ragnulois_in_queue {
     RAGNULOIS_QUEUE_CAPACITY = 0,
-    RAGNULOIS_QUEUE_COUNT = 1, /* the push count (LIFO) or the tail (FIFO) */
+    RAGNULOIS_QUEUE_PUSHES = 1, /* the push count (LIFO) or the tail (FIFO) */
     RAGNULOIS_QUEUE_PACKED = 2,
-    RAGNULOIS_QUEUE_DONE = 3 /* the completed head (LIFO) */
+    RAGNULOIS_QUEUE_COMPLETED = 3 /* the completed head (LIFO) */
 };
 
 /* ---- the machine ---- */

@@ -129,7 +129,7 @@ pub enum Answer {
 }
 
 #[derive(Clone, Copy, Debug, PartialEq, Eq)]
-pub enum Deed {
+pub enum Change {
     Nothing,
     Offered(u64),
     Accepted,
@@ -137,7 +137,7 @@ pub enum Deed {
     Booked(u64),
     Landed(u64),
     /// As many landed, and one more is in hand.
-    LandedLast(u64),
+    TakeLanded(u64),
     Drained,
     Dropped(u64),
     Closed,
@@ -147,7 +147,7 @@ pub enum Deed {
 pub struct Effect {
     pub party: u64,
     pub queue: u64,
-    pub deed: Deed,
+    pub change: Change,
 }
 
 /// What a step or a run alone came to.
@@ -164,9 +164,9 @@ pub struct Outcome {
 #[derive(Clone, Copy, Debug, PartialEq, Eq)]
 pub struct Words {
     pub capacity: u64,
-    pub count: u64,
+    pub pushes: u64,
     pub packed: u64,
-    pub done: u64,
+    pub completed: u64,
 }
 
 #[derive(Clone, Copy, Debug, PartialEq, Eq)]
@@ -276,19 +276,19 @@ fn answer_of(number: u64, token: u64, count: u64) -> Answer {
     }
 }
 
-/// A deed is numbered 0 to 9; a number past them would be none.
-fn deed_of(number: u64, value: u64) -> Deed {
+/// A change is numbered 0 to 9; a number past them would be none.
+fn change_of(number: u64, value: u64) -> Change {
     match number {
-        1 => Deed::Offered(value),
-        2 => Deed::Accepted,
-        3 => Deed::Popped,
-        4 => Deed::Booked(value),
-        5 => Deed::Landed(value),
-        6 => Deed::LandedLast(value),
-        7 => Deed::Drained,
-        8 => Deed::Dropped(value),
-        9 => Deed::Closed,
-        _ => Deed::Nothing,
+        1 => Change::Offered(value),
+        2 => Change::Accepted,
+        3 => Change::Popped,
+        4 => Change::Booked(value),
+        5 => Change::Landed(value),
+        6 => Change::TakeLanded(value),
+        7 => Change::Drained,
+        8 => Change::Dropped(value),
+        9 => Change::Closed,
+        _ => Change::Nothing,
     }
 }
 
@@ -401,7 +401,7 @@ impl Machine {
     /// A queue's words; zeros where there is no such queue.
     pub fn words(&self, queue: u64) -> Words {
         let word = |which| unsafe { library::ragnulois_word(self.block.as_ptr(), self.block.len(), queue, which) };
-        Words { capacity: word(0), count: word(1), packed: word(2), done: word(3) }
+        Words { capacity: word(0), pushes: word(1), packed: word(2), completed: word(3) }
     }
 
     /// How many tokens rest in a queue.
@@ -446,7 +446,7 @@ impl Machine {
         Effect {
             party: self.reply(at),
             queue: self.reply(at + 1),
-            deed: deed_of(self.reply(at + 2), self.reply(at + 3)),
+            change: change_of(self.reply(at + 2), self.reply(at + 3)),
         }
     }
 

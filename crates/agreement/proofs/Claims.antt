@@ -1,4 +1,4 @@
--- Claims 1, 2, 4, 6 and 7 along the schedules of the table, computed without the theorem. tests/bites asks of wrong tables that the verdict
+-- Claims 1, 2, 4, 6 and 7 along the schedules of the table, computed without the theorem. tests/wrong-versions asks of wrong tables that the verdict
 -- turns round: that some schedule which keeps the premise breaks a claim.
 use mathlib.Core.Path.{_≡_, refl}
 use mathlib.Core.Bool.{Bool, true, false, not}
