@@ -1,3 +1,4 @@
+-- After i turns of the loop the survey is the record test of the first i entries; all of them are the test, and the turn made of party and queues is the machine's act.
 use borrow.Author.Needs.{needs}
 use Prim.Native.Nat.{ℕ, _+_, _-_, _*_, _%_, _^_, _≤_}
 use mathlib.Core.Path.{sym, ap, subst, _∙_}

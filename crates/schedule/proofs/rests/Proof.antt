@@ -1,3 +1,4 @@
+-- Each turn writes one queue's line; the buffer keeps its length.
 use Prim.Native.Nat.{_≤_, _-_}
 use mathlib.Core.Path.{_≡_}
 use borrow.Author.Needs.{needs}

@@ -1,3 +1,4 @@
+-- Each turn uses up one of the turns that are left, and the buffers keep their lengths.
 use native.Mathlib.Omega.{arith}
 use Prim.Native.Nat.{_≤_}
 use mathlib.Core.Path.{_≡_}

@@ -1,3 +1,4 @@
+-- The loop stays within the bytes that are held, and the buffer keeps its length.
 use Prim.Native.Nat.{_≤_, _<_, _-_, _+_}
 use mathlib.Core.Path.{_≡_, refl}
 use native.Mathlib.Omega.{arith}

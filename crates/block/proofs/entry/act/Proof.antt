@@ -1,3 +1,4 @@
+-- Words that are no block read as a machine without parties, which every act refuses with 1; of a block `act_on` says it.
 use mathlib.Core.Path.{refl, sym, _∙_}
 use Rattle.words.specs.Edition.{width}
 use Rattle.tables.specs.Machine.{most}

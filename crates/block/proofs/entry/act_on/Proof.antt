@@ -1,3 +1,4 @@
+-- The party, the queues and the record test are read where they stand and are the machine's, so the turn made of them is the machine's; refused, nothing was put back.
 use mathlib.Core.Path.{refl, sym, ap, _∙_}
 use native.Mathlib.Omega.{arith}
 use lib.ListN.{getD}

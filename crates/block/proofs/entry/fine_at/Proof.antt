@@ -1,3 +1,4 @@
+-- Party and queues are read where they stand, so what is tested of them is what the definition tests of the entries.
 use native.Mathlib.Omega.{arith}
 use Rattle.words.specs.Edition.{width}
 use Rattle.tables.specs.Machine.{most}

@@ -1,3 +1,4 @@
+-- Each part goes over its own words and leaves the others, so the machine changes by just these four.
 use mathlib.Core.Path.{refl}
 use native.Mathlib.Omega.{arith}
 use Rattle.tables.specs.Machine.{most}

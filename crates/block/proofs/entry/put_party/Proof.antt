@@ -1,3 +1,4 @@
+-- A place put as words is read back as that place, and a drain as that drain.
 use Prim.Native.Nat.{ℕ}
 use mathlib.Core.Path.{ap, _∙_}
 use mathlib.Core.List.{List}

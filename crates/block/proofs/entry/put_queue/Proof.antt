@@ -1,3 +1,4 @@
+-- The words put are the queue's, and they are read back as that queue.
 use Prim.Native.Nat.{ℕ}
 use mathlib.Core.Path.{sym, ap, _∙_}
 use mathlib.Core.List.{List}

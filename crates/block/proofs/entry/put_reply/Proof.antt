@@ -1,3 +1,4 @@
+-- As many words are put as a reply has.
 use Prim.Native.Nat.{ℕ}
 use mathlib.Core.Path.{ap, _∙_}
 use mathlib.Core.List.{List}

@@ -1,3 +1,4 @@
+-- After i turns the survey is what the first i entries show, and its total is less than i capacities.
 use borrow.Author.Needs.{needs}
 use Prim.Native.Nat.{_-_, _*_, _^_, _≤_}
 use mathlib.Core.Path.{_≡_, sym, ap, _∙_}

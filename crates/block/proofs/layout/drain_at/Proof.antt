@@ -1,3 +1,4 @@
+-- The word read in place is the stretch's own.
 use Rattle.words.specs.Edition.{width}
 use Rattle.block.proofs.Words.{drain-is}
 use borrow.Author.Needs.{needs}

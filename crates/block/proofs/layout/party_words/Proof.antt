@@ -1,3 +1,4 @@
+-- Each short word fits in its half, so unpacking gives it back.
 use mathlib.Core.Path.{ap, _∙_}
 use borrow.Author.Needs.{needs}
 use Rattle.words.specs.Edition.{width}

@@ -1,3 +1,4 @@
+-- The words read in place are the stretch's own.
 use Rattle.words.specs.Edition.{width}
 use Rattle.tables.specs.Machine.{most}
 use Rattle.block.specs.Block.{queueBase}

@@ -1,3 +1,4 @@
+-- Push count and completed head fit in their halves, so unpacking gives them back, and the kind with them.
 use mathlib.Core.Path.{ap, _∙_}
 use borrow.Author.Needs.{needs}
 use Rattle.words.specs.Edition.{width}

@@ -1,3 +1,4 @@
+-- The words read in place are the stretch's own.
 use Rattle.words.specs.Edition.{width}
 use Rattle.block.proofs.Words.{cell-is}
 use borrow.Author.Needs.{needs}

@@ -1,3 +1,4 @@
+-- After i turns `base` is the sum of the first i capacities, each below 2 ^ width.
 use Prim.Native.Nat.{_≤_, _<_, _*_, _^_, _-_}
 use mathlib.Core.Path.{_≡_, refl}
 use native.Mathlib.Omega.{arith}

@@ -1,3 +1,4 @@
+-- Words that are no block read as a machine without parties.
 use mathlib.Core.Path.{sym, _∙_}
 use native.Mathlib.Omega.{arith}
 use borrow.Author.Needs.{needs}

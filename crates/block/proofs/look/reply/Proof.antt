@@ -1,3 +1,4 @@
+-- The word read in place is the last answer's own; past its end, and where there is no block, it is 0.
 use mathlib.Core.Path.{sym, _∙_}
 use native.Mathlib.Omega.{arith}
 use borrow.Author.Needs.{needs}

@@ -1,3 +1,4 @@
+-- Only a queue of a block is below its number of parties, and what rests there is counted by its words alone.
 use borrow.Author.Needs.{needs}
 use Rattle.words.specs.Edition.{width}
 use Rattle.tables.specs.Machine.{most}

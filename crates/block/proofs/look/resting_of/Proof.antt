@@ -1,3 +1,4 @@
+-- Queue and base are the machine's, so what is made of them is what rests there.
 use borrow.Author.Needs.{needs}
 use Rattle.words.specs.Edition.{width}
 use Rattle.tables.specs.Machine.{most}

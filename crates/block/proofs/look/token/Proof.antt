@@ -1,3 +1,4 @@
+-- Only a queue of a block is below its number of parties; past the count there is no token, and 0 is read.
 use borrow.Author.Needs.{needs}
 use Rattle.words.specs.Edition.{width}
 use Rattle.tables.specs.Machine.{most}

@@ -1,3 +1,4 @@
+-- After i turns the first i are copied; all `most` of them are the list.
 use borrow.Author.Needs.{needs}
 use Prim.Native.Nat.{ℕ, _-_, _≤_}
 use mathlib.Core.Path.{_≡_, refl, subst, _∙_}

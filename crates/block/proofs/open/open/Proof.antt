@@ -1,3 +1,4 @@
+-- What was opened has no more parties than there is room for, so it can be stored, and what is stored is read back.
 use Prim.Native.Nat.{ℕ, _≤_}
 use mathlib.Core.Path.{refl, sym, ap, subst}
 use mathlib.Core.Logic.{⊎-elim}

@@ -1,3 +1,4 @@
+-- After i turns the head, the first i parties and the first i queues are read as the machine's, and the words past the end are as they came.
 use borrow.Author.Needs.{needs}
 use Prim.Native.Nat.{ℕ, _-_, _≤_}
 use mathlib.Core.Path.{_≡_, refl, ap, subst, _∙_}

@@ -1,3 +1,4 @@
+-- Numbers that name a call are that call; others change nothing.
 use mathlib.Core.Path.{refl, sym, _∙_}
 use Rattle.words.specs.Edition.{width}
 use Rattle.tables.specs.Machine.{most}

@@ -1,3 +1,4 @@
+-- Numbers that name a mark are that mark; others change nothing.
 use borrow.Author.Tests.{lt-ltb, le-ltb}
 use mathlib.Core.Path.{refl}
 use Rattle.words.specs.Edition.{width}

@@ -1,3 +1,4 @@
+-- No effect has number 0; one that lands names the source, any other the queue that the step reached.
 use borrow.Author.Needs.{needs}
 use mathlib.Core.Path.{ap}
 use borrow.Author.Tests.{eq-eqb, ne-eqb}

@@ -1,3 +1,4 @@
+-- After i turns the first i queues are the opened ones, and `total` is the sum of their capacities.
 use borrow.Author.Needs.{needs}
 use Prim.Native.Nat.{_-_}
 use mathlib.Core.List.{[]}

@@ -1,3 +1,4 @@
+-- Each refusal's test is the definition's, in its order; past all of them the machine is the one it opens.
 use borrow.Author.Needs.{needs}
 use Prim.Native.Nat.{_<_, _≤_}
 use mathlib.Core.Path.{sym, _∙_}

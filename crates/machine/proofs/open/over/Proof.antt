@@ -1,3 +1,4 @@
+-- After i turns `found` says whether one of the first i requests is past the largest.
 use borrow.Author.Needs.{needs}
 use Prim.Native.Nat.{_-_, _^_, _≤_}
 use mathlib.Core.Path.{_≡_, refl, ap, _∙_}

@@ -1,3 +1,4 @@
+-- Where the capacity is a power of two the masked position is the slot; else, and past the items, there is no token.
 use borrow.Author.Needs.{needs}
 use mathlib.Core.Path.{sym, ap, _∙_}
 use native.Mathlib.Omega.{arith}

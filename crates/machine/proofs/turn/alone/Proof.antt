@@ -1,3 +1,4 @@
+-- Each turn is one more of `until`, so what the loop leaves is what `until` gives.
 use borrow.Author.Needs.{needs}
 use Prim.Native.Nat.{_-_, _<_}
 use mathlib.Core.Path.{sym, ap, subst, _∙_}

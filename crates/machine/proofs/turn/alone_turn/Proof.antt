@@ -1,3 +1,4 @@
+-- The refusals are tested in their order; past them the loop is the run alone.
 use borrow.Author.Needs.{needs}
 use borrow.Author.Tests.{eq-eqb, ne-eqb}
 use mathlib.Core.Path.{sym, _∙_}

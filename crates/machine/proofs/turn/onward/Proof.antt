@@ -1,3 +1,4 @@
+-- A plain step drops one at most, so that its count, joined to the last one's, still fits; the rest is the definition's step.
 use borrow.Author.Needs.{needs}
 use Rattle.words.specs.Edition.{width}
 use Rattle.tables.specs.declared.call.Mark.the-variants as Mark

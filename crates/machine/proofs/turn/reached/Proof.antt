@@ -1,3 +1,4 @@
+-- The row says whose queue is reached; its own and its source's are both on the desk.
 use borrow.Author.Needs.{needs}
 use Rattle.words.specs.Edition.{width}
 use Rattle.machine.proofs.Turns.{reach-is}

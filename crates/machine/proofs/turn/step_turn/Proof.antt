@@ -1,3 +1,4 @@
+-- The refusals are tested in their order; past them the step is taken by the row that was looked up for them.
 use borrow.Author.Needs.{needs}
 use mathlib.Core.Path.{sym, ap, subst, _∙_}
 use Rattle.words.specs.Edition.{width}

@@ -1,3 +1,4 @@
+-- A desk that is ready has its stretch inside the items, so the access is made there, and what was seen goes on by the same row.
 use borrow.Author.Needs.{needs}
 use mathlib.Core.Path.{ap}
 use Prim.Native.Nat.{_+_, _-_}

@@ -1,3 +1,4 @@
+-- The slot lies inside the queue's stretch, so the item read is the stretch's own.
 use borrow.Author.Needs.{needs}
 use Rattle.queue.proofs.Slots.{slot-below}
 use Rattle.queue.proofs.memory.read_at.Statement.{statement}

@@ -1,3 +1,4 @@
+-- The slot lies inside the queue's stretch, so only that item changes.
 use borrow.Author.Needs.{needs}
 use Rattle.queue.proofs.Slots.{slot-below}
 use Rattle.queue.proofs.memory.write_at.Statement.{statement}

@@ -1,3 +1,4 @@
+-- The field ends at the next tab, or at the line's end; where it would begin past that there is none.
 use Prim.Native.Nat.{_+_}
 use mathlib.Core.Path.{refl}
 use native.Mathlib.Omega.{arith}

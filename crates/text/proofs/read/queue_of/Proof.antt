@@ -1,3 +1,4 @@
+-- A position is taken only where it fits a word, so nothing is cut off it.
 use borrow.Author.Needs.{needs}
 use borrow.Author.Tests.{ltb-true}
 use mathlib.Core.Path.{sym, _∙_}

@@ -1,3 +1,4 @@
+-- Each line is taken by its own function, which is what the definition says of that line.
 use Rattle.text.specs.Session.{lineTaken}
 use Rattle.text.proofs.Sessions.{stays-as}
 use mathlib.Core.Path.{refl}

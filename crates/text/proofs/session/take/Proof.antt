@@ -1,3 +1,4 @@
+-- The bytes are read as the line that the definition reads, and taken as that line.
 use Rattle.text.specs.Session.{nextOf}
 use borrow.Author.Needs.{needs}
 use Rattle.text.proofs.session.take.Statement.{statement}

@@ -1,3 +1,4 @@
+-- The line is counted, then taken.
 use borrow.Author.Needs.{needs}
 use Rattle.text.proofs.session.take_line.Statement.{statement}
 use Rattle.text.proofs.session.take_line.Tie as tie

@@ -1,3 +1,4 @@
+-- Each part is written where the one before ended; together they are the line, of 128 bytes at most.
 use borrow.Author.Needs.{needs}
 use mathlib.Core.Path.{ap}
 use native.Mathlib.Omega.{arith}

@@ -1,3 +1,4 @@
+-- After i turns the first i bytes are put, and all others are as they came.
 use Prim.Native.Nat.{_≤_, _<_, _-_, _+_}
 use mathlib.Core.Path.{_≡_, refl, sym, ap, _∙_}
 use native.Mathlib.Omega.{arith}

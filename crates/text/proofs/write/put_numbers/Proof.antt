@@ -1,3 +1,4 @@
+-- A token and a count are put in that order, each where the one before ended.
 use borrow.Author.Needs.{needs}
 use native.Mathlib.Omega.{arith}
 use Rattle.text.specs.Write.{fieldsFor}
