@@ -1,4 +1,3 @@
--- Each turn writes one queue's line; the buffer keeps its length.
 use Prim.Native.Nat.{_≤_, _-_}
 use mathlib.Core.Path.{_≡_}
 use borrow.Author.Needs.{needs}
@@ -17,6 +16,7 @@ pub rests-spec : {M : Type 1} → statement M
 rests-spec =
     tie.close
     (tie.spec Inv-loop μ-loop
+    (λ c. search needs)
     (λ c. search needs)
     (λ c κs. search needs)
     (λ c. search needs)
