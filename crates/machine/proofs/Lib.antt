@@ -6,5 +6,6 @@ pub mod Running
 pub mod Acts
 pub mod Surveys
 pub mod Applied
+pub mod Rows
 pub mod Opens
 pub mod Rests

@@ -40,7 +40,7 @@ ready-reach w l d k lent y = at (reach w l d k .away) refl
     at true e = record { power = rw e (y .source-power); fits = rw e (y .source-fits) }
     at false e = record { power = rw e (y .own-power); fits = rw e (y .own-fits) }
 
-put-is : (xs : List ℕ) (base n : ℕ) (ys : List ℕ) → putMid base n xs ys ≡ restretched base n ys xs
+pub put-is : (xs : List ℕ) (base n : ℕ) (ys : List ℕ) → putMid base n xs ys ≡ restretched base n ys xs
 put-is xs base n ys = ap (λ (zs : List ℕ). take base xs ++ (ys ++ zs)) (drop-drop n base xs)
 
 -- n is the capacity as the code has it, the end of the stretch less its start; q and seen are what the access left

@@ -1,3 +1,4 @@
 pub mod Note
 pub mod Desk
 pub mod Rest
+pub mod Look

@@ -18,11 +18,12 @@ pub mod desk; // what a step sees of the machine
 pub mod effects; // what a step has done, and the few effects of a run alone
 pub mod turn; // one party's act on its desk
 pub mod soundness; // the record test
+pub mod row; // for a loop that holds the machine: the record test once, and a step's row
 pub mod open; // a fresh machine
 pub mod rest; // what rests in a queue
 
 // A place of the table for any number: the number itself, where it is in range.
-fn index(n: u64) -> usize
+pub fn index(n: u64) -> usize
     ensures { λ r. ⌜ r ≡ n % most ⌝ }
 {
     (n % (MOST as u64)) as usize

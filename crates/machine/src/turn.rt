@@ -104,7 +104,7 @@ fn desk_with(away: bool, desk: Desk, queue: Queue, next: Next) -> Desk
     }
 }
 
-fn is_weak(mark: Mark) -> bool
+pub fn is_weak(mark: Mark) -> bool
     ensures { λ r. ⌜ r ≡ St.isWeak mark ⌝ }
 {
     match mark {
@@ -255,7 +255,7 @@ fn alone(l: Stretches, desk: Desk, items: &mut [u64], budget: u64) -> Turn
 
 // ---- refusals, in their orders; 0 is none
 
-fn begin_code(ok: bool, parties: u32, who: u64, place: Place, call: Call) -> u8
+pub fn begin_code(ok: bool, parties: u32, who: u64, place: Place, call: Call) -> u8
     ensures { λ r. ⌜ r ≡ St.beginOrder ok parties who place call ⌝ }
 {
     if ok {
@@ -305,7 +305,7 @@ fn mark_code(access: Access, mark: Mark, place: Place) -> u8
     }
 }
 
-fn step_code(ok: bool, parties: u32, who: u64, access: Access, mark: Mark, place: Place) -> u8
+pub fn step_code(ok: bool, parties: u32, who: u64, access: Access, mark: Mark, place: Place) -> u8
     ensures { λ r. ⌜ r ≡ St.stepOrder ok parties who access mark place ⌝ }
 {
     if ok {
