@@ -38,7 +38,7 @@ value : ℕ → List ℕ → ℕ
 value n [] = n
 value n (b ∷ s) = value (n * 256 + b) s
 
-abbrev Bytes : List ℕ → Type 0
+abbrev pub Bytes : List ℕ → Type 0
 Bytes s = (i : ℕ) → i < length s → getD s i 0 < 256
 
 code-value : (n : ℕ) (s : List ℕ) → (codeOf n s ≡ 2 → ⊥) → codeOf n s ≡ value n s
@@ -61,7 +61,7 @@ unfolding value
 value-grows n [] = omega arith
 value-grows n (b ∷ s) = omega (arith, value-grows (n * 256 + b) s)
 
-tail-bytes : (x : ℕ) (s : List ℕ) → Bytes (x ∷ s) → Bytes s
+pub tail-bytes : (x : ℕ) (s : List ℕ) → Bytes (x ∷ s) → Bytes s
 tail-bytes x s h i k = h (suc i) (omega (arith, k))
 
 value-same : (n m : ℕ) (s t : List ℕ) → Bytes s → Bytes t → length s ≡ length t → value n s ≡ value m t → (n ≡ m) × (s ≡ t)
@@ -107,13 +107,12 @@ code-one s t p q h e =
 
 -- ---- the words that there are: each of bytes, none too long
 
-below : List ℕ → Bool
+abbrev pub below : List ℕ → Bool
 below [] = true
 below (b ∷ s) = pick (ltb b 256) (below s) false
 
 -- one word that is no word of bytes, or too long, would be seen here
 fine : (w : Word) → pick (below (spelt w)) (eqb (codeOf 1 (spelt w)) 2) true ≡ false
-unfolding below
 fine machine· = refl
 fine lifo· = refl
 fine fifo· = refl
@@ -137,8 +136,7 @@ fine step· = refl
 fine weak· = refl
 fine end· = refl
 
-below-bytes : (s : List ℕ) → below s ≡ true → Bytes s
-unfolding below
+pub below-bytes : (s : List ℕ) → below s ≡ true → Bytes s
 below-bytes [] e i h = absurd (omega (arith, h))
 below-bytes (b ∷ s) e i h = by (ltb b 256) refl e (below-bytes s) i h
   where

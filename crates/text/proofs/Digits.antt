@@ -111,13 +111,13 @@ some-then true x n e = (refl, e)
 some-then false x n e = absurd (Option·none-ne-some n e)
 
 -- a digit was read: it is one, and what is left was read after it
-record Digit (m b : ℕ) (s : List ℕ) (n : ℕ) : Type 0 where
-  low : 48 ≤ b
-  high : b ≤ 57
-  fits : m * 10 + (b - 48) < 2 ^ 64
-  rest : digitsOf (m * 10 + (b - 48)) s ≡ some n
+pub record Digit (m b : ℕ) (s : List ℕ) (n : ℕ) : Type 0 where
+  pub low : 48 ≤ b
+  pub high : b ≤ 57
+  pub fits : m * 10 + (b - 48) < 2 ^ 64
+  pub rest : digitsOf (m * 10 + (b - 48)) s ≡ some n
 
-digit-read : (m b : ℕ) (s : List ℕ) (n : ℕ) → digitsOf m (b ∷ s) ≡ some n → Digit m b s n
+pub digit-read : (m b : ℕ) (s : List ℕ) (n : ℕ) → digitsOf m (b ∷ s) ≡ some n → Digit m b s n
 unfolding digitsOf
 digit-read m b s n e =
     let one = some-then (leb 48 b) _ n e in

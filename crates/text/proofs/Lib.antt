@@ -4,3 +4,7 @@ pub mod Parts
 pub mod Writing
 pub mod Sessions
 pub mod Openings
+pub mod Finding
+pub mod Standing
+pub mod Feedings
+pub mod Parting

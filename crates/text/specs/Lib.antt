@@ -5,3 +5,8 @@ pub mod Line
 pub mod Write
 pub mod View
 pub mod Session
+pub mod Find
+pub mod Quick
+pub mod Output
+pub mod Feeding
+pub mod Pieces

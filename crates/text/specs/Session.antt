@@ -65,9 +65,9 @@ pub record Turn : Type 0 where
   pub state : State
   pub text : List ℕ
 
-abbrev pub counted : Session → Session
-counted s = record {
-  line = plus 64 (s .line) 1;
+abbrev pub atLine : ℕ → Session → Session
+atLine n s = record {
+  line = n;
   stage = s .stage;
   kind = s .kind;
   parties = s .parties;
@@ -75,6 +75,9 @@ counted s = record {
   requests = s .requests;
   positions = s .positions;
 }
+
+abbrev pub counted : Session → Session
+counted s = atLine (plus 64 (s .line) 1) s
 
 abbrev pub atStage : Stage → Session → Session
 atStage g s = record {

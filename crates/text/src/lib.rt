@@ -5,7 +5,10 @@ use tables::state::Kind;
 
 pub mod read; // a line, from its bytes
 pub mod write; // what is printed, as bytes
+pub mod find; // the next line of a block
+pub mod quick; // the commonest lines, read where they stand in a block
 pub mod session; // a run, line by line
+pub mod run; // a run whole, in pieces of input and output
 
 pub enum Line {
     Machine(Kind, u64),
