@@ -39,28 +39,14 @@ use Rattle.tables.proofs.Sound as S
 use Rattle.tables.proofs.Sound.{Sound, sound-facts, Alike, bases-alike, site-below}
 use Rattle.tables.proofs.Steps.{step-alike, step-length, step-sound, begin-alike, begin-items, begin-sound}
 use Rattle.machine.specs.declared.row.Look.{Look}
-use Rattle.machine.specs.declared.row.Starts.{Starts}
 use Rattle.machine.specs.declared.soundness.Survey.{Survey}
 use Rattle.machine.specs.Desk.{fine, surveyed, passed}
-use Rattle.machine.specs.Look.{look, contextFor}
+use Rattle.machine.specs.Look.{look, contextFor, Fit}
 use Rattle.machine.proofs.Surveys.{Surveyed, survey-none, passed-is, few-bound}
 use Rattle.machine.proofs.Applied.{by-value, more}
 use Rattle.machine.proofs.Turns.{put-is}
 
 -- ---- what the loop keeps
-
--- the record passes the test, and the stretches start where the table says
-pub record Fit (m : Machine) (starts : List ℕ) (lent : ℕ) : Type 0 where
-  pub passes : sound width most m lent ≡ true
-  pub at : (i : ℕ) → i < m .parties → getD starts i 0 ≡ baseOf i (m .queue)
-  pub parties-many : length (m .party) ≡ most
-  pub queues-many : length (m .queue) ≡ most
-
--- from what `starts_of` ensures
-pub fit-start : (m : Machine) (lent : ℕ) (r : Starts) → r .sound ≡ sound width most m lent
-    → (r .sound ≡ true → (i : ℕ) → i < m .parties → getD (r .at) i 0 ≡ baseOf i (m .queue))
-    → r .sound ≡ true → length (m .party) ≡ most → length (m .queue) ≡ most → Fit m (r .at) lent
-fit-start m lent r s a ok p q = record { passes = sym s ∙ ok; at = a ok; parties-many = p; queues-many = q }
 
 -- no act changes a capacity or a table's length
 fit-alike : {m k : Machine} {starts : List ℕ} {lent : ℕ} (left : ℕ) → Fit m starts lent → Alike m k → sound width most k left ≡ true

@@ -1,13 +1,17 @@
 -- A step's row looked up on a record that passed the record test. proofs/Rows.antt shows that the machine's step is made of it.
-use Prim.Native.Nat.{ℕ}
+use Prim.Native.Nat.{ℕ, _<_}
+use mathlib.Core.Path.{_≡_}
 use mathlib.Core.Bool.{true}
+use mathlib.Core.List.{List}
+use lib.ListN.{length, getD}
+use Rattle.words.specs.Edition.{width}
 use Rattle.tables.specs.declared.access.Context.{Context}
 use Rattle.tables.specs.declared.call.Mark.{Mark}
 use Rattle.tables.specs.declared.place.Place.{Place}
 use Rattle.tables.specs.declared.state.Machine.{Machine}
-use Rattle.tables.specs.Machine.{partyAt, queueAt}
+use Rattle.tables.specs.Machine.{most, partyAt, queueAt, baseOf}
 use Rattle.tables.specs.Tables.{rowOf}
-use Rattle.tables.specs.Step.{site, stepOrder}
+use Rattle.tables.specs.Step.{sound, site, stepOrder}
 use Rattle.machine.specs.declared.row.Look.{Look}
 
 -- x and y are the own queue's place of the table and the source's
@@ -27,3 +31,10 @@ contextFor m x y k = record {
   drain = partyAt m x .drain;
   mark = k;
 }
+
+-- what a loop over many lines keeps: the record passes the test, and the stretches start where the table says
+pub record Fit (m : Machine) (starts : List ℕ) (lent : ℕ) : Type 0 where
+  pub passes : sound width most m lent ≡ true
+  pub at : (i : ℕ) → i < m .parties → getD starts i 0 ≡ baseOf i (m .queue)
+  pub parties-many : length (m .party) ≡ most
+  pub queues-many : length (m .queue) ≡ most

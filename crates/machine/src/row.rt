@@ -1,10 +1,8 @@
 // For a loop that holds the machine in one local: the record test made once for many lines, and a step's row looked up once.
 ghost use mathlib.Core.Path.{_≡_};
 ghost use mathlib.Core.Bool.{true};
-ghost use Prim.Native.Nat.{ℕ, _<_};
-ghost use lib.ListN.{getD};
 ghost use Rattle.words.specs.Edition.{width};
-ghost use Rattle.tables.specs.Machine.{most, baseOf};
+ghost use Rattle.tables.specs.Machine.{most};
 ghost use Rattle.tables.specs.Step as St;
 ghost use Rattle.machine.specs.Look as L;
 use super::soundness;
@@ -59,7 +57,7 @@ pub fn look_up(parties: u32, who: u64, x: usize, y: usize, place: Place, context
 // A stretch starts where the capacities before it end. No act changes a capacity, so the starts hold for all the lines.
 pub fn starts_of(m: Machine, lent: usize) -> Starts
     ensures { λ r. ⌜ r .sound ≡ St.sound width most m lent ⌝ }
-    ensures { λ r. ⌜ (r .sound ≡ true → (i : ℕ) → i < m .parties → getD (r .at) i 0 ≡ baseOf i (m .queue)) ⌝ }
+    ensures { λ r. ⌜ (r .sound ≡ true → L.Fit m (r .at) lent) ⌝ }
 {
     let parties = m.parties;
     let bound = soundness::bound(parties);

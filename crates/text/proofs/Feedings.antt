@@ -1,6 +1,6 @@
 -- A piece of input taken line by line is the piece taken byte by byte, and what is taken in turns is taken at once.
 use Prim.Native.Nat.{ℕ, zero, suc, _+_, _-_, _<_, _≤_}
-use mathlib.Core.Path.{_≡_, refl, sym, ap, ap₂, _∙_}
+use mathlib.Core.Path.{_≡_, refl, sym, ap, ap₂, subst, _∙_}
 use mathlib.Core.Bool.{Bool, true, false}
 use mathlib.Core.List.{List, [], _∷_, _++_, append-assoc, append-nil}
 use native.Mathlib.Omega.{arith}
@@ -35,7 +35,7 @@ kept-one line n b h e =
     take-all 121 (take n line ++ (b ∷ [])) (omega (arith, k, length-append (take n line) (b ∷ [])))
     ∙ sym (ap (λ (j : ℕ). take j (set line n b)) (add-one n) ∙ take-suc-set line n b (omega (arith, e)))
 
-take-cut : (n : ℕ) (x s : List ℕ) → take n (take n x ++ s) ≡ take n (x ++ s)
+pub take-cut : (n : ℕ) (x s : List ℕ) → take n (take n x ++ s) ≡ take n (x ++ s)
 take-cut zero x s = refl
 take-cut (suc n) [] s = refl
 take-cut (suc n) (a ∷ x) s = ap (λ (l : List ℕ). a ∷ l) (take-cut n x s)
@@ -156,6 +156,12 @@ gets-self piece f used l put h k = record {
   where
     none : fedIn width most (length l - put) f (drop used piece) .used ≡ used - used + fedIn width most (length l - put) f (drop used piece) .used
     none = omega arith
+
+-- flows that are the same
+pub gets-as : {piece : List ℕ} {f f′ g g′ : Flow} {u v : ℕ} {l k : List ℕ} {p q : ℕ} → f ≡ f′ → g ≡ g′ → Gets piece f′ u l p g′ v k q
+    → Gets piece f u l p g v k q
+gets-as {piece} {f} {f′} {g} {g′} {u} {v} {l} {k} {p} {q} e d x =
+    subst (λ (a : Flow). Gets piece a u l p g v k q) (sym e) (subst (λ (a : Flow). Gets piece f′ u l p a v k q) (sym d) x)
 
 pub gets-then : {piece : List ℕ} {f g h : Flow} {u v x : ℕ} {l k m : List ℕ} {p q r : ℕ} → Gets piece f u l p g v k q → Gets piece g v k q h x m r
     → Gets piece f u l p h x m r
@@ -282,3 +288,40 @@ held-is zero held e = refl
 held-is (suc n) [] e = absurd (omega (arith, e))
 held-is (suc n) (b ∷ s) e =
     ne-eqb (suc n) 0 (λ z. omega (arith, z)) ∙ sym (ne-eqb (suc (length (take n s))) 0 (λ z. omega (arith, z)))
+
+-- ---- how far a piece comes
+
+pub fed-used : (w most room : ℕ) (f : Flow) (s : List ℕ) → fedIn w most room f s .used ≤ length s
+unfolding fedIn
+fed-used w most room f [] = omega arith
+fed-used w most room f (b ∷ s) =
+    by (leb enough room) (eqb b 10) (fed-used w most (room - length (x .text)) (flow (x .state) []) s) (fed-used w most room (flow (f .state) (kept (f .held) b)) s)
+  where
+    x : Turn
+    x = after w most (f .state) (f .held)
+
+    by : (t n : Bool) → fedIn w most (room - length (x .text)) (flow (x .state) []) s .used ≤ length s
+        → fedIn w most room (flow (f .state) (kept (f .held) b)) s .used ≤ length s
+        → pick t
+        (pick n (fedAfter (x .text) 1 (fedIn w most (room - length (x .text)) (flow (x .state) []) s))
+        (fedAfter [] 1 (fedIn w most room (flow (f .state) (kept (f .held) b)) s))) (nothingFed f) .used
+        ≤ suc (length s)
+    by true true h k = omega (arith, h)
+    by true false h k = omega (arith, k)
+    by false n h k = omega arith
+
+-- a buffer with room for a line takes a byte or more
+pub fed-some : (w most room : ℕ) (f : Flow) (s : List ℕ) → enough ≤ room → 0 < length s → 0 < fedIn w most room f s .used
+unfolding fedIn
+fed-some w most room f [] h k = absurd (omega (arith, k))
+fed-some w most room f (b ∷ s) h k = rw (le-leb enough room h) (by (eqb b 10))
+  where
+    x : Turn
+    x = after w most (f .state) (f .held)
+
+    by : (n : Bool)
+        → 0
+        < pick n (fedAfter (x .text) 1 (fedIn w most (room - length (x .text)) (flow (x .state) []) s))
+        (fedAfter [] 1 (fedIn w most room (flow (f .state) (kept (f .held) b)) s)) .used
+    by true = omega arith
+    by false = omega arith

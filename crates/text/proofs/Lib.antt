@@ -7,4 +7,9 @@ pub mod Openings
 pub mod Finding
 pub mod Standing
 pub mod Feedings
+pub mod Looping
 pub mod Parting
+pub mod Leftover
+pub mod Ending
+pub mod Pieces
+pub mod Refusals

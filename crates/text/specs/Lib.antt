@@ -9,4 +9,5 @@ pub mod Find
 pub mod Quick
 pub mod Output
 pub mod Feeding
+pub mod Stepping
 pub mod Pieces

@@ -13,11 +13,13 @@ ghost use Rattle.text.specs.Session as N;
 ghost use Rattle.text.specs.Feeding.{Gets, GetsParts, Feeds, Rests};
 ghost use Rattle.text.specs.Write.{Wrote};
 ghost use mathlib.Core.List.{List, []};
+use super::lines;
 use super::session;
 use super::session::Session;
 use super::write;
 use machine::rest;
 use machine::rest::Resting;
+use machine::row;
 use tables::state::Kind;
 use tables::state::MOST;
 use tables::state::Machine;
@@ -162,10 +164,79 @@ fn one_line(
     }
 }
 
-// A piece of input, until it is used up or `out` has no room for a line more.
+// A run after lines that left its machine and its line count so; no line is at hand.
+fn run_after(run: Run, machine: Machine, line: u64) -> Run
+    ensures { λ r. ⌜ ((xs : List ℕ) → F.flowOf r xs ≡ F.flow (N.stateOf (N.atLine line (run .session)) machine xs) []) ⌝ }
+    ensures { λ r. ⌜ F.cursorOf r ≡ F.cursorOf run ⌝ }
+{
+    let mut session = run.session;
+    session.line = line;
+    let held = run.held;
+    Run {
+        session: session,
+        machine: machine,
+        held: held,
+        count: 0,
+        queue: run.queue,
+        part: run.part,
+    }
+}
+
+// Whole lines, where none is at hand and the machine is open and sound, which is tested once for all of them.
+fn many_lines(
+    run: Run,
+    items: &mut [u64],
+    piece: &[u8],
+    used: usize,
+    out: &mut [u8],
+    put: usize,
+) -> Fed
+    requires { ⌜ used ≤ length (now piece) ⌝ }
+    requires { ⌜ put ≤ length (now out) ⌝ }
+    ensures { λ r. ⌜ Gets (now (piece .entry)) (F.flowOf run (now (items .entry))) used (now (out .entry)) put
+        (F.flowOf (r .run) (now (items .exit))) (r .used) (now (out .exit)) (r .put) ⌝ }
+    ensures { λ r. ⌜ F.cursorOf (r .run) ≡ F.cursorOf run ⌝ }
+{
+    let session = run.session;
+    let machine = run.machine;
+    let stage = session.stage;
+    if run.count == 0 {
+        if session::is_running(stage) {
+            let starts = row::starts_of(machine, items.len());
+            let at = starts.at;
+            if starts.sound {
+                let after = lines::lines(
+                    session,
+                    machine,
+                    at,
+                    &mut *items,
+                    piece,
+                    used,
+                    &mut *out,
+                    put,
+                );
+                let left = after.machine;
+                return Fed {
+                    run: run_after(run, left, after.line),
+                    used: after.from,
+                    put: after.put,
+                };
+            }
+        }
+    }
+    Fed {
+        run: run,
+        used: used,
+        put: put,
+    }
+}
+
+// A piece of input, until it is used up or `out` has no room for a line more. The first line may have begun in an earlier piece.
 pub fn feed(run: Run, items: &mut [u64], piece: &[u8], out: &mut [u8]) -> Fed
     ensures { λ r. ⌜ Feeds (F.fedIn width most (length (now (out .entry))) (F.flowOf run (now (items .entry))) (now (piece .entry)))
         (F.cursorOf run) r (now (items .exit)) (now (out .entry)) (now (out .exit)) ⌝ }
+    ensures { λ r. ⌜ r .used ≤ length (now (piece .entry)) ⌝ }
+    ensures { λ r. ⌜ (F.enough ≤ length (now (out .entry)) → 0 < length (now (piece .entry)) → 0 < r .used) ⌝ }
 {
     let mut fed = Fed {
         run: run,
@@ -176,8 +247,10 @@ pub fn feed(run: Run, items: &mut [u64], piece: &[u8], out: &mut [u8]) -> Fed
         if out.len() - fed.put < ENOUGH {
             break;
         }
-        let current = fed.run;
-        fed = one_line(current, &mut *items, piece, fed.used, &mut *out, fed.put);
+        let before = fed.run;
+        let one = one_line(before, &mut *items, piece, fed.used, &mut *out, fed.put);
+        let between = one.run;
+        fed = many_lines(between, &mut *items, piece, one.used, &mut *out, one.put);
     }
     fed
 }
@@ -201,7 +274,8 @@ fn put_part(
         return write::put_rest(out, put, queue);
     }
     if part <= (resting.count as u64) {
-        return write::put_field(out, put, rest::token_at(items, resting, (part - 1) as u32));
+        let token = rest::token_at(items, resting, (part - 1) as u32);
+        return write::put_field(out, put, token);
     }
     write::put_end(out, put)
 }

@@ -49,7 +49,14 @@ starts-of-spec =
     (c .before .before .before .before .before .before .before .loop-test .taken) (v .inv) (f .ensures)
     (rw (c .before .before .before .index .ensures) at (c .before .fine .ensures)) (c .surveyed .ensures .0) (c .surveyed .ensures .1))
     (λ c κs. search needs)
-    (λ c. let a = c .before .before .before .before .before .args in let e = c .before .before .before .before .bound .ensures in
+    (λ c. let z = c .before .before .before .before .before in let a = z .args in let e = c .before .before .before .before .bound .ensures in
     let v = c .before .before .loop in let h = c .before .loop-test .left in
-    let ok = c .passed .ensures ∙ started-sound (a .t1) e (v .inv) h (a .lent) in
-    (ok, λ y. started-at (a .t1) e (v .inv) h (a .lent) (sym ok ∙ y))))
+    let ok = c .passed .ensures ∙ started-sound (a .t1) e (v .inv) h (a .lent) in (
+      ok,
+      λ y. record {
+        passes = sym ok ∙ y;
+        at = started-at (a .t1) e (v .inv) h (a .lent) (sym ok ∙ y);
+        parties-many = parties-many (a .t1) (z .good .0);
+        queues-many = queues-many (a .t1) (z .good .0);
+      },
+    )))

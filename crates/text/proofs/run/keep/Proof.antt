@@ -39,5 +39,6 @@ keep-spec =
       l .inv .3 ∙ kept-more (l .line) (l .n) _ (l .i) h (l .inv .2) (c .before .before .loop-test .taken),
     ))
     (λ c. let l = c .before .loop in (sym (l .inv .3 ∙ kept-all (take (l .n) (l .line)) _ (l .i) (omega (arith, c .loop-test .left))), (l .inv .1, sym (l .inv .2))))
-    (λ c. let l = c .before .before .loop in let e : l .n ≡ 121 = c .if1 .taken in let k : length (take (l .n) (l .line)) ≡ 121 = length-take-le (l .n) (l .line) (omega (arith, e, l .inv .2)) ∙ e in
+    (λ c. let l = c .before .before .loop in let e : l .n ≡ 121 = c .if1 .taken in
+    let k : length (take (l .n) (l .line)) ≡ 121 = length-take-le (l .n) (l .line) (omega (arith, e, l .inv .2)) ∙ e in
     (sym (l .inv .3 ∙ kept-full (take (l .n) (l .line)) _ k), (l .inv .1, sym (l .inv .2)))))

@@ -19,4 +19,4 @@ last-line-spec =
     (λ c. search needs)
     (λ c. search needs)
     (λ c. let f = c .before .before .before .before in let n = f .before .before .before .before in
-    simp (sym (n .before .is-clear .ensures) ∙ n .if1 .left) (f .feed .ensures)))
+    simp (sym (n .before .is-clear .ensures) ∙ n .if1 .left) (f .feed .ensures .0)))

@@ -36,8 +36,9 @@ one-line-spec =
     (λ c. search needs)
     (λ c. let k = c .before .before .before .before .before .before .before .before .before .before .before in
     let u = k .before .before .before .before in let z = u .before .before .before .before .before .before .before in
-    let t = c .before .before .before .before .before .before .take .ensures in (
+    let l = k .before .before .keep .result in let t = c .before .before .before .before .before .before .take .ensures in (
       line-whole _ _ _ _ _ (u .find .result) _ (z .pre .0) (z .pre .1) (u .find .ensures .0) (u .find .ensures .1)
-          (k .before .before .keep .ensures .0) (k .if1 .left) _ (ap (λ (n : ℕ). take n (k .before .before .keep .result .held)) (whole (k .before .before .keep .result .count))) _ _ _ (t .state-is) (t .wrote) (t .near),
+          (k .before .before .keep .ensures .0) (k .if1 .left) _
+          (ap (λ (n : ℕ). take n (l .held)) (whole (l .count))) _ _ _ (t .state-is) (t .wrote) (t .near),
       (refl, omega (arith, u .find .ensures .0)),
     )))

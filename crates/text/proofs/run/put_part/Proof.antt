@@ -18,7 +18,7 @@ put-part-spec =
     (λ c κs. search needs)
     (λ c. search needs)
     (λ c. let t = c .before .before .before .before .before in let w = c .before .before .put-field .ensures in (
-      simp (ne-eqb _ _ (t .before .before .if1 .left), le-leb _ _ (t .if2 .taken), ← (c .before .before .before .token-at .ensures)) (w .0),
+      simp (ne-eqb _ _ (t .before .before .if1 .left), le-leb _ _ (t .if2 .taken), ← (c .before .before .before .before .token-at .ensures)) (w .0),
       omega (arith, w .1),
     ))
     (λ c κs. search needs)

@@ -28,11 +28,12 @@ rests-spec =
     (λ c. search needs)
     (λ c. let p = c .before .before .before .before in let n = p .before .before .before .before .before in
     let t = n .before .before .before .before .before .before .before .before .last-line in let e = t .ensures in
-    let w = rests-parts _ _ _ _ _ _ (e .flow-is) (e .wrote) (sym (n .before .is-clear .ensures) ∙ not-false (n .before .is-clear .result) (n .if1 .left)) _ _ (e .cursor-is) _ _ (p .parts .ensures .0) (p .parts .ensures .1) in
+    let z = sym (n .before .is-clear .ensures) ∙ not-false (n .before .is-clear .result) (n .if1 .left) in
+    let w = rests-parts _ _ _ _ _ _ (e .flow-is) (e .wrote) z _ _ (e .cursor-is) _ _ (p .parts .ensures .0) (p .parts .ensures .1) in
     record {
       flow-is = w .flow-is;
       cursor-is = w .cursor-is;
       wrote = w .wrote;
-      room = rests-room _ _ _ _ _ _ (e .flow-is) (e .wrote) (sym (n .before .is-clear .ensures) ∙ not-false (n .before .is-clear .result) (n .if1 .left)) _ _ (e .cursor-is) _ _ (p .parts .ensures .0) (p .parts .ensures .1);
+      room = rests-room _ _ _ _ _ _ (e .flow-is) (e .wrote) z _ _ (e .cursor-is) _ _ (p .parts .ensures .0) (p .parts .ensures .1);
       done-is = ap (λ (q : ℕ). leb q (p .parts .result .queue)) (c .before .queues-of .ensures .0) ∙ w .done-is;
     }))
