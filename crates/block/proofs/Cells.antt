@@ -34,7 +34,10 @@ use Rattle.tables.specs.declared.place.Transfer.the-variants as Transfer
 use Rattle.tables.specs.declared.place.TransferCall.{TransferCall}
 use Rattle.tables.specs.Step.{andb}
 use Rattle.tables.proofs.Bools.{pick-yes}
-use Rattle.block.specs.PlaceWords.{ruleNumber, ruleCount, ruleOf, ownerWords, ownerOf, transferTag, transferOf, transferWords, transferCallOf, roomWords, roomOf, bookingWords, bookingDestination, bookingOf, closingWords, closingCount, closingOf, lifoWords, lifoOf, fifoWords, fifoOf, ownWords, ownOf, bookWords, bookOf, moveWords, moveOf, closeWords, closeOf, wordsOf, placeOf, booking, moving, bookedOf, between, known, placeRead}
+use Rattle.block.specs.PlaceWords.{ruleNumber, ruleCount, ruleOf, ownerWords, ownerOf, transferTag, transferOf, transferWords, transferCallOf, roomWords}
+use Rattle.block.specs.PlaceWords.{roomOf, bookingWords, bookingDestination, bookingOf, closingWords, closingCount, closingOf, lifoWords, lifoOf}
+use Rattle.block.specs.PlaceWords.{fifoWords, fifoOf, ownWords, ownOf, bookWords, bookOf, moveWords, moveOf, closeWords}
+use Rattle.block.specs.PlaceWords.{closeOf, wordsOf, placeOf, booking, moving, bookedOf, between, known, placeRead}
 
 rule-back : (r : Rule) → ruleOf (ruleNumber r) (ruleCount r) ≡ r
 rule-back Rule.All = refl

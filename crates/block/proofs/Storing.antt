@@ -16,7 +16,8 @@ use Rattle.tables.specs.declared.state.Machine.{Machine}
 use Rattle.tables.specs.Machine.{most, partyAt, queueAt, idleParty, zeroQueue, stretch, restretched}
 use Rattle.tables.proofs.Bases.{restretched-length, stretch-length, stretch-back}
 use Rattle.tables.proofs.Bools.{pick-yes, equal-or-not}
-use Rattle.block.specs.Block.{replyBase, replySize, partySize, queueSize, size, partyBase, queueBase, partyFrom, queueFrom, partyIn, queueIn, table, noReply, sealWords, headWords, isBlock, machineOf}
+use Rattle.block.specs.Block.{replyBase, replySize, partySize, queueSize, size, partyBase, queueBase, partyFrom, queueFrom}
+use Rattle.block.specs.Block.{partyIn, queueIn, table, noReply, sealWords, headWords, isBlock, machineOf}
 use Rattle.block.specs.Contents.{contentsIn}
 use Rattle.block.specs.Opening.{fresh}
 use Rattle.block.proofs.Machines.{Filed, long-kept, beyond-kept, here, elsewhere, seats-apart, queues-apart}

@@ -19,7 +19,8 @@ use Rattle.tables.specs.declared.state.Machine.{Machine}
 use Rattle.tables.specs.Machine.{partyAt, queueAt}
 use Rattle.tables.specs.Tables.{isIdle, sourceOf}
 use Rattle.tables.specs.Effect.{noEffect}
-use Rattle.tables.specs.Step.{Outcome, sound, placeAt, rowAt, begun, refused, beginOrder, stepOrder, aloneOrder, beginRefusal, stepRefusal, aloneRefusal, begin, step, alone, taken, runs, still, threeEffects, ofOutcome, ofAlone, acted}
+use Rattle.tables.specs.Step.{Outcome, sound, placeAt, rowAt, begun, refused, beginOrder, stepOrder, aloneOrder, beginRefusal, stepRefusal}
+use Rattle.tables.specs.Step.{aloneRefusal, begin, step, alone, taken, runs, still, threeEffects, ofOutcome, ofAlone, acted}
 use Rattle.tables.proofs.Bases.{base-within}
 use Rattle.tables.proofs.Sound.{Sound, sound-facts}
 use Rattle.machine.specs.declared.desk.Desk.{Desk}

@@ -31,7 +31,8 @@ use Rattle.tables.specs.declared.state.Queue.{Queue}
 use Rattle.tables.specs.Access.{Accessed, shows, perform}
 use Rattle.tables.specs.Machine.{most, partyAt, queueAt, baseOf, stretch, restretched}
 use Rattle.tables.specs.Tables.{rowOf, sourceOf, start}
-use Rattle.tables.specs.Step.{Outcome, Result, refused, sound, withParty, placeAt, sourceAt, beginOrder, beginRefusal, site, siteAt, isWeak, rowAt, accessAt, nextAt, stored, taken, stepOrder, stepRefusal, ofOutcome, acted}
+use Rattle.tables.specs.Step.{Outcome, Result, refused, sound, withParty, placeAt, sourceAt, beginOrder, beginRefusal, site, siteAt}
+use Rattle.tables.specs.Step.{isWeak, rowAt, accessAt, nextAt, stored, taken, stepOrder, stepRefusal, ofOutcome, acted}
 use Rattle.tables.proofs.Bools.{pick-yes, pick-no, equal-or-not}
 use Rattle.tables.proofs.Refused as R
 use Rattle.tables.proofs.Refused.{zero-then, begin-if, step-if}

@@ -34,7 +34,8 @@ use Rattle.machine.specs.declared.desk.Stretches.{Stretches}
 use Rattle.machine.specs.declared.desk.Reached.{Reached}
 use Rattle.machine.specs.declared.desk.Stepped.{Stepped}
 use Rattle.machine.specs.declared.desk.Turn.{Turn}
-use Rattle.machine.specs.Desk.{With, with, deskContext, queueFor, deskWith, reach, reaches, deskStep, Ran, ranOn, ranNone, ranStops, deskRuns, turnWith, ofRan, turnOn, ofStepped, asCame, taking, Ready, Roomy}
+use Rattle.machine.specs.Desk.{With, with, deskContext, queueFor, deskWith, reach, reaches, deskStep, Ran, ranOn, ranNone}
+use Rattle.machine.specs.Desk.{ranStops, deskRuns, turnWith, ofRan, turnOn, ofStepped, asCame, taking, Ready, Roomy}
 use Rattle.machine.proofs.Turns.{Within, ready-reach}
 use Rattle.machine.proofs.Noting.{note-is, roomy-of}
 

@@ -20,6 +20,10 @@ fn run(buf: &mut [u8], items: &mut [u64], out: &mut [u8])
     let mut reads = u64::MAX;
     while reads > 0 {
         reads -= 1;
+        if run::is_over(r) {
+            reads = 0;
+            continue;
+        }
         let got = libc::read(0, &mut *buf);
         if got < 0 {
             io::write_all(2, b"schedule: the input cannot be read\n");

@@ -13,7 +13,8 @@ use Rattle.tables.specs.declared.call.Rule.the-variants as Rule
 use Rattle.tables.specs.declared.state.Kind.{Kind}
 use Rattle.tables.specs.declared.state.Kind.the-variants as Kind
 use Rattle.tables.specs.Machine.{queueAt, baseOf}
-use Rattle.tables.specs.Step.{opening, begin, step, alone, sound, soundTo, openTo, overTo, closedQueues, idleParties, openRefusal, beginRefusal, stepRefusal, aloneRefusal, taken, until, appended, placeAt}
+use Rattle.tables.specs.Step.{opening, begin, step, alone, sound, soundTo, openTo, overTo, closedQueues}
+use Rattle.tables.specs.Step.{idleParties, openRefusal, beginRefusal, stepRefusal, aloneRefusal, taken, until, appended, placeAt}
 use Rattle.tables.specs.Lists.{restingAt, tokens}
 use Rattle.tables.proofs.Runs.{begins, steps, alones, calls, Run, changesOf, stepsOf, run, repeat, fresh, pushes, about}
 

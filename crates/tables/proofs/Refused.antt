@@ -18,7 +18,8 @@ use Rattle.tables.specs.Machine.{baseOf}
 use Rattle.tables.specs.Access.{isCas}
 use Rattle.tables.specs.Tables.{isIdle, wishOf, markFits, callSource}
 use Rattle.tables.specs.Effect.{noEffect}
-use Rattle.tables.specs.Step.{andb, Outcome, refused, sound, tables, closedQueues, openQueues, overTo, openRefusal, opening, begun, beginRefusal, begin, placeAt, rowAt, taken, stepRefusal, step, Alone, runs, still, aloneRefusal, alone}
+use Rattle.tables.specs.Step.{andb, Outcome, refused, sound, tables, closedQueues, openQueues, overTo, openRefusal, opening, begun, beginRefusal}
+use Rattle.tables.specs.Step.{begin, placeAt, rowAt, taken, stepRefusal, step, Alone, runs, still, aloneRefusal, alone}
 use Rattle.tables.proofs.Bools.{pick-if, pick-yes, pick-no, and-left, and-right}
 
 -- ---- a pick that comes to 0 took the other arm

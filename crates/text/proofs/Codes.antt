@@ -11,7 +11,8 @@ use lib.Dec.{eqb, ltb, leb}
 use borrow.Author.Tests.{eq-eqb, ne-eqb, eqb-true, eqb-false, leb-true, leb-false, ltb-true, lt-ltb, le-ltb}
 use Rattle.words.specs.Word.{pick}
 use Rattle.text.specs.Ascii.{same}
-use Rattle.text.specs.Line.{Word, machine·, lifo·, fifo·, queue·, begin·, push·, pop·, extend·, drain·, next·, drop·, steal·, take·, spare·, empty·, all·, half·, fixed·, given·, step·, weak·, end·, spelt}
+use Rattle.text.specs.Line.{Word, machine·, lifo·, fifo·, queue·, begin·, push·, pop·, extend·, drain·, next·, drop·}
+use Rattle.text.specs.Line.{steal·, take·, spare·, empty·, all·, half·, fixed·, given·, step·, weak·, end·, spelt}
 use Rattle.text.specs.View.{codeOf, codeIs, Coded}
 
 no : {A : Type 0} → false ≡ true → A

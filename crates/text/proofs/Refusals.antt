@@ -21,8 +21,8 @@ use Rattle.text.specs.declared.session.Stage.{Stage}
 use Rattle.text.specs.declared.session.Stage.the-variants as Stage
 use Rattle.text.specs.Line.{readOf}
 use Rattle.text.specs.Write.{answerOf, refusedOf}
-use Rattle.text.specs.Session.{State, stateOf, counted, isRunning, outcomeText, acts, lineTaken, nextOf}
-use Rattle.text.specs.Output.{after, linesTaken, whole}
+use Rattle.text.specs.Session.{State, Turn, stateOf, counted, isRunning, isOver, outcomeText, acts, lineTaken, nextOf}
+use Rattle.text.specs.Output.{after, linesTaken, restLines, whole}
 use Rattle.text.proofs.Leftover.{lines-more}
 
 running-is : (g : Stage) → isRunning g ≡ true → g ≡ Stage.Running
@@ -84,3 +84,38 @@ pub refused-then : (w most : ℕ) (st : State) (l : List ℕ) (ls : List (List �
 refused-then w most st l ls n code g e =
     lines-more w most st l ls
     ∙ ap₂ (λ (x : List ℕ) (s : State). x ++ whole w most (linesTaken w most s ls)) e (refused-only w most st l n code g e)
+
+-- ---- once the opening was refused nothing more is said
+
+over-is : (g : Stage) → isOver g ≡ true → g ≡ Stage.Over
+over-is Stage.MachineLine e = absurd (true≢false (sym e))
+over-is Stage.QueueLines e = absurd (true≢false (sym e))
+over-is Stage.Running e = absurd (true≢false (sym e))
+over-is Stage.Over e = refl
+
+module _ (w most : ℕ) where
+  pub record Silent (t : Turn) : Type 0 where
+    pub nothing : t .text ≡ []
+    pub still : t .state .session .stage ≡ Stage.Over
+
+  over-line : (m : Machine) (xs : List ℕ) (s : Session) → s .stage ≡ Stage.Over → (l : Line) → Silent (lineTaken w most m xs s l)
+  unfolding lineTaken
+  over-line m xs s e (Line.Machine k n) = record { nothing = rw e refl; still = rw e refl }
+  over-line m xs s e (Line.Queue r p) = record { nothing = rw e refl; still = rw e refl }
+  over-line m xs s e (Line.Begin p c) = record { nothing = rw e refl; still = rw e refl }
+  over-line m xs s e (Line.Step p k) = record { nothing = rw e refl; still = rw e refl }
+  over-line m xs s e Line.Malformed = record { nothing = rw e refl; still = rw e refl }
+
+  over-lines : (ls : List (List ℕ)) (st : State) → st .session .stage ≡ Stage.Over → Silent (linesTaken w most st ls)
+  unfolding linesTaken nextOf
+  over-lines [] st e = record { nothing = refl; still = e }
+  over-lines (l ∷ ls) st e =
+      let one = over-line (st .machine) (st .items) (counted (st .session)) e (readOf w l) in
+      let more = over-lines ls (after w most st l .state) (one .still) in
+      record { nothing = ap₂ (λ (a b : List ℕ). a ++ b) (one .nothing) (more .nothing); still = more .still }
+
+  pub over-then : (st : State) (ls : List (List ℕ)) → isOver (st .session .stage) ≡ true → whole w most (linesTaken w most st ls) ≡ []
+  unfolding restLines
+  over-then st ls e =
+      let t = over-lines ls st (over-is (st .session .stage) e) in
+      ap₂ (λ (a b : List ℕ). a ++ b) (t .nothing) (rw (t .still) refl)

@@ -77,6 +77,15 @@ pub fn start(items: &[u64]) -> Run
     }
 }
 
+// Whether nothing more will be said, whatever follows: the opening was refused.
+pub fn is_over(run: Run) -> bool
+    ensures { λ r. ⌜ r ≡ N.isOver (run .session .stage) ⌝ }
+{
+    let session = run.session;
+    let stage = session.stage;
+    session::is_over(stage)
+}
+
 // ---- input
 
 // How many bytes are kept of so many.

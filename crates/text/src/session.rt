@@ -426,7 +426,7 @@ fn by_kind(
 }
 
 // A line that was read; one over 120 bytes, which is not kept, is malformed.
-pub fn take_line(
+fn take_line(
     s: Session,
     m: Machine,
     items: &mut [u64],

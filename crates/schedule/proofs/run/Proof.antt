@@ -48,6 +48,9 @@ run-spec =
     (λ c. search needs)
     (λ c κs. search needs)
     (λ c. search needs)
+    (λ c. search needs)
+    (λ c κs. search needs)
+    (λ c. search needs)
     (λ c κs. search needs)
     (λ c. search needs)
     (λ c. search needs)
@@ -65,34 +68,19 @@ run-spec =
     (λ c κs. search needs)
     (λ c κs. search needs)
     (λ c. let k = c .before .before .before .before .before .before .before .before .before in
-    omega (
-      arith,
-      k .before .before .before .before .before .before .before .before .before .before .before .before .before .before .loop .inv .0,
-      k .before .before .before .before .before .before .before .before .before .before .buf .given,
-    ))
+    omega (arith, k .before .before .before .before .before .before .before .before .before .before .before .before .before .before .before .before .loop .inv .0,
+    k .before .before .before .before .before .before .before .before .before .before .buf .given))
     (λ c. let k = c .before .before .before .before .before .before .before .before .before in
-    omega (
-      arith,
-      k .before .before .before .before .loop2 .inv .1,
-      c .before .before .before .before .before .before .items .given,
-      k .before .before .before .before .before .before .before .before .before .before .before .before .before .before .loop .inv .1,
-    ))
+    omega (arith, k .before .before .before .before .loop2 .inv .1, c .before .before .before .before .before .before .items .given,
+    k .before .before .before .before .before .before .before .before .before .before .before .before .before .before .before .before .loop .inv .1))
     (λ c. let k = c .before .before .before .before .before .before .before .before .before in
-    omega (
-      arith,
-      k .before .before .before .before .loop2 .inv .2,
-      c .before .before .before .before .out .given,
-      k .before .before .before .before .before .before .before .before .before .before .before .before .before .before .loop .inv .2,
-    ))
+    omega (arith, k .before .before .before .before .loop2 .inv .2, c .before .before .before .before .out .given,
+    k .before .before .before .before .before .before .before .before .before .before .before .before .before .before .before .before .loop .inv .2))
     (λ c. search needs)
     (λ c. search needs)
     (λ c. let k = c .before .before .before .before .before .before .before .before .before in
-    let p = part-some _ _ _ (k .before .before .before .before .before .loop2-test .taken) (k .before .before .before .before .before .before .before .before .count .ensures .0 .0) in
-    omega (
-      arith,
-      k .before .before .before .before .before .loop2-test .taken,
-      k .feed .ensures .1 .1 (k .before .before .before .before .before .before .loop2 .inv .3) p,
-    ))
+    let t = k .before .before .before .before .before .loop2-test .taken in let p = part-some _ _ _ t (k .before .before .before .before .before .before .before .before .count .ensures .0 .0) in
+    omega (arith, t, k .feed .ensures .1 .1 (k .before .before .before .before .before .before .loop2 .inv .3) p))
     (λ c. search needs)
     (λ c. search needs)
     (λ c. search needs)

@@ -57,7 +57,9 @@ act-on-spec =
     ))
     (λ c. search needs)
     (λ c. search needs)
-    (λ c. let z = c .before .before .before .before .before .before .before .before .before .before .before .before .before .before .before .before .before .before .before .before .before .before .before .before in let a = z .args in let t = c .before .before .before .before .before .before .before .turned in let none = c .before .before .before .before .if1 .taken in
+    (λ c. let z = c .before .before .before .before .before .before .before .before .before .before .before .before .before .before .before .before .before .before .before .before .before .before .before .before in
+    let a = z .args in let t = c .before .before .before .before .before .before .before .turned in
+    let none = c .before .before .before .before .if1 .taken in
     let e = act-is (a .block .now) (z .pre) (getD (a .block .now) 2 0) refl (a .items .now) (a .who)
     (c .before .before .before .before .before .before .before .before .before .before .before .before .before .before .before .before .before .source-of .result)
     (c .before .before .before .before .before .before .before .before .before .before .before .before .before .before .before .before .before .before .before .before .index .result)
