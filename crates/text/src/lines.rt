@@ -14,6 +14,7 @@ use super::Line;
 use super::find;
 use super::session::Session;
 use super::write;
+use super::write::ENOUGH;
 use machine::row;
 use machine::turn;
 use queue::memory::Performed;
@@ -108,7 +109,7 @@ pub fn lines(
     let mut line = session.line;
     let mut from = from0;
     let mut put = put0;
-    while 128 <= out.len() - put {
+    while ENOUGH <= out.len() - put {
         let found = find::next_line(piece, from);
         if found.next == from {
             break;

@@ -17,15 +17,13 @@ use super::lines;
 use super::session;
 use super::session::Session;
 use super::write;
+use super::write::ENOUGH;
 use machine::rest;
 use machine::rest::Resting;
 use machine::row;
 use tables::state::Kind;
 use tables::state::MOST;
 use tables::state::Machine;
-
-// A buffer with so much room takes a line, or a part of a rest line.
-const ENOUGH: usize = 128;
 
 // So many bytes of a line are kept: one more than the longest has.
 const KEPT: usize = 121;
@@ -55,7 +53,8 @@ pub struct Rested {
     pub done: bool,
 }
 
-struct Line {
+// The line at hand with more of its bytes.
+struct Longer {
     held: [u8; KEPT],
     count: usize,
 }
@@ -97,7 +96,7 @@ fn fewest(count: usize) -> usize
 }
 
 // More bytes of the line at hand; past 121 they are dropped.
-fn keep(held: [u8; KEPT], count: usize, more: &[u8]) -> Line
+fn keep(held: [u8; KEPT], count: usize, more: &[u8]) -> Longer
     ensures { λ r. ⌜ take (r .count) (r .held) ≡ F.keptAll (take count held) (now (more .entry)) ⌝ }
     ensures { λ r. ⌜ r .count ≤ 121 ⌝ }
     ensures { λ r. ⌜ 121 ≡ length (r .held) ⌝ }
@@ -113,7 +112,7 @@ fn keep(held: [u8; KEPT], count: usize, more: &[u8]) -> Line
         n += 1;
         i += 1;
     }
-    Line {
+    Longer {
         held: line,
         count: n,
     }

@@ -11,6 +11,9 @@ use tables::answer;
 use tables::answer::Answer;
 use tables::answer::Values;
 
+// A buffer with so much room takes a line, or a part of a rest line.
+pub const ENOUGH: usize = 128;
+
 pub fn put_bytes(out: &mut [u8], at: usize, src: &[u8]) -> usize
     requires { ⌜ at + length (now src) ≤ length (now out) ⌝ }
     ensures { λ r. ⌜ Wrote (now (out .entry)) at (now (src .entry)) (now (out .exit)) r ⌝ }
