@@ -68,14 +68,25 @@ run-spec =
     (λ c κs. search needs)
     (λ c κs. search needs)
     (λ c. let k = c .before .before .before .before .before .before .before .before .before in
-    omega (arith, k .before .before .before .before .before .before .before .before .before .before .before .before .before .before .before .before .loop .inv .0,
-    k .before .before .before .before .before .before .before .before .before .before .buf .given))
+    omega (
+      arith,
+      k .before .before .before .before .before .before .before .before .before .before .before .before .before .before .before .before .loop .inv .0,
+      k .before .before .before .before .before .before .before .before .before .before .buf .given,
+    ))
     (λ c. let k = c .before .before .before .before .before .before .before .before .before in
-    omega (arith, k .before .before .before .before .loop2 .inv .1, c .before .before .before .before .before .before .items .given,
-    k .before .before .before .before .before .before .before .before .before .before .before .before .before .before .before .before .loop .inv .1))
+    omega (
+      arith,
+      k .before .before .before .before .loop2 .inv .1,
+      c .before .before .before .before .before .before .items .given,
+      k .before .before .before .before .before .before .before .before .before .before .before .before .before .before .before .before .loop .inv .1,
+    ))
     (λ c. let k = c .before .before .before .before .before .before .before .before .before in
-    omega (arith, k .before .before .before .before .loop2 .inv .2, c .before .before .before .before .out .given,
-    k .before .before .before .before .before .before .before .before .before .before .before .before .before .before .before .before .loop .inv .2))
+    omega (
+      arith,
+      k .before .before .before .before .loop2 .inv .2,
+      c .before .before .before .before .out .given,
+      k .before .before .before .before .before .before .before .before .before .before .before .before .before .before .before .before .loop .inv .2,
+    ))
     (λ c. search needs)
     (λ c. search needs)
     (λ c. let k = c .before .before .before .before .before .before .before .before .before in
