@@ -3,12 +3,12 @@ use tables::call::Call;
 use tables::call::Mark;
 use tables::state::Kind;
 
-pub mod read; // a line, from its bytes
-pub mod write; // what is printed, as bytes
-pub mod find; // the next line of a block
-pub mod quick; // the commonest lines, read where they stand in a block
+mod read; // a line, from its bytes
+mod write; // what is printed, as bytes
+mod find; // the next line of a block
+mod quick; // the commonest lines, read where they stand in a block
 mod lines; // many lines of a piece, the machine in one local
-pub mod session; // a run, line by line
+mod session; // a run, line by line
 pub mod run; // a run whole, in pieces of input and output
 
 pub enum Line {
