@@ -11,7 +11,7 @@ use borrow.Author.Tests.{ltb-true, lt-ltb, le-ltb}
 use Rattle.words.specs.Word.{pick}
 use Rattle.bytes.specs.Bytes.{slice, indexOf, indexAfter}
 use Rattle.text.specs.declared.Line.the-variants as Line
-use Rattle.text.specs.declared.find.Found.{Found}
+use Rattle.text.specs.declared.Found.{Found}
 use Rattle.text.specs.Line.{readOf}
 use Rattle.text.specs.Find.{nextLine}
 

@@ -35,7 +35,7 @@ use Rattle.machine.specs.Look.{look, contextFor, Fit}
 use Rattle.machine.proofs.Rows as R
 use Rattle.text.specs.declared.Line.{Line}
 use Rattle.text.specs.declared.Line.the-variants as Line
-use Rattle.text.specs.declared.find.Found.{Found}
+use Rattle.text.specs.declared.Found.{Found}
 use Rattle.text.specs.declared.session.Session.{Session}
 use Rattle.text.specs.declared.session.Stage.{Stage}
 use Rattle.text.specs.declared.session.Stage.the-variants as Stage

@@ -7,7 +7,7 @@ use lib.Dec.{ltb}
 use Rattle.words.specs.Word.{pick}
 use Rattle.bytes.specs.Bytes.{indexOf}
 use Rattle.text.specs.declared.Line.the-variants as Line
-use Rattle.text.specs.declared.find.Found.{Found}
+use Rattle.text.specs.declared.Found.{Found}
 use Rattle.text.specs.Line.{readOf}
 
 -- the line that ends at the first newline from a position on, and where the next starts; the same position where none is left

@@ -4,15 +4,10 @@ ghost use Prim.Native.Nat.{_≤_};
 ghost use lib.ListN.{length};
 ghost use Rattle.words.specs.Edition.{width};
 ghost use Rattle.text.specs.Find.{nextLine};
+use super::Found;
 use super::Line;
 use super::quick;
 use super::read;
-
-// A line found in a block of input, and where the next one starts; `next` is `from` where no newline is left.
-pub struct Found {
-    pub line: Line,
-    pub next: usize,
-}
 
 pub fn next_line(s: &[u8], from: usize) -> Found
     requires { ⌜ from ≤ length (now s) ⌝ }

@@ -18,3 +18,9 @@ pub enum Line {
     Step(u64, Mark),
     Malformed,
 }
+
+// A line found in a block of input, and where the next one starts: where it was looked for, if no newline is left.
+pub struct Found {
+    pub line: Line,
+    pub next: usize,
+}
