@@ -2,7 +2,7 @@
 //! each point where the tables, the text or the Rust have an edge.
 
 use crate::batch;
-use crate::machine::{Call, Kind, Mark, Rule, Want};
+use crate::machine::{self, Call, Kind, Mark, Rule, Want};
 use crate::script::Script;
 use std::io::{self, Write};
 
@@ -12,7 +12,7 @@ pub fn write_all(out: &mut impl Write) -> io::Result<()> {
     let mut all: Vec<(String, Vec<u8>)> = Vec::new();
     let mut add = |name: String, script: Script| all.push((name, script.text));
     add("whole-run".to_string(), whole_run());
-    add("bench-b-capacities".to_string(), capacities());
+    add("bench-b-capacities".to_string(), spares(Kind::Lifo, &[0, 1, 5]));
     add("bench-c-turnover".to_string(), turnover());
     add("bench-d-busy-after-failed-cas".to_string(), overtaken(Kind::Lifo, Rule::All));
     add("bench-e-retry-after-failed-cas".to_string(), overtaken(Kind::Fifo, Rule::Half));
@@ -32,6 +32,9 @@ pub fn write_all(out: &mut impl Write) -> io::Result<()> {
         add(format!("call-under-way-at-the-end-{}", word), under_way(kind));
         add(format!("marks-out-of-place-{}", word), marks(kind));
         add(format!("weak-everywhere-{}", word), weak_everywhere(kind));
+        for requests in around_powers() {
+            add(format!("requests-{}-to-{}-{}", requests[0], requests[requests.len() - 1], word), spares(kind, &requests));
+        }
     }
     all.extend(texts());
     eprintln!("bench: {} schedules", all.len());
@@ -49,12 +52,31 @@ fn whole_run() -> Script {
     script
 }
 
-fn capacities() -> Script {
-    let mut script = Script::open(Kind::Lifo, &[(0, 0), (1, 0), (5, 0)]);
-    for party in 0..3 {
+/// What each request is rounded up to: the spare room of a fresh queue.
+fn spares(kind: Kind, requests: &[u64]) -> Script {
+    let queues: Vec<(u64, u32)> = requests.iter().map(|&request| (request, 0)).collect();
+    let mut script = Script::open(kind, &queues);
+    for party in 0..queues.len() {
         script.call(party, Call::Spare, &[]);
     }
     script
+}
+
+/// Each power of two, the number before it and the one after, as many in a
+/// machine as it has parties and slots for.
+fn around_powers() -> Vec<Vec<u64>> {
+    let near = |request: u64| (request.saturating_sub(1)..=request + 1).any(|n| n.is_power_of_two());
+    let mut machines: Vec<Vec<u64>> = Vec::new();
+    let (mut parties, mut slots) = (machine::PARTIES, 0);
+    for request in (0..=machine::ITEMS).filter(|&request| near(request)) {
+        (parties, slots) = (parties + 1, slots + machine::capacity(request));
+        if parties > machine::PARTIES || slots > machine::ITEMS {
+            machines.push(Vec::new());
+            (parties, slots) = (1, machine::capacity(request));
+        }
+        machines.last_mut().expect("one was begun").push(request);
+    }
+    machines
 }
 
 fn turnover() -> Script {
@@ -287,6 +309,7 @@ fn texts() -> Vec<(String, Vec<u8>)> {
         ("text-request-past-64-bits", "machine\tlifo\t1\nqueue\t18446744073709551616\t0\n"),
         ("text-position-past-32-bits", "machine\tlifo\t1\nqueue\t1\t4294967296\n"),
         ("text-items-just-enough", "machine\tlifo\t2\nqueue\t2048\t0\nqueue\t2047\t0\n"),
+        ("text-one-more-than-the-items", "machine\tlifo\t1\nqueue\t4097\t0\n"),
         ("text-too-many-items", "machine\tlifo\t2\nqueue\t4096\t0\nqueue\t0\t0\nstep\t0\n"),
         ("text-largest-request", "machine\tlifo\t1\nqueue\t2147483648\t0\n"),
         ("text-malformed-before-too-many", "machine\tlifo\t2\nqueue\t4096\t0\nqueue\t1\n"),

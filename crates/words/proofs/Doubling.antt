@@ -4,9 +4,9 @@ use mathlib.Core.Path.{_≡_, refl, sym, ap, _∙_}
 use mathlib.Core.Bool.{true}
 use mathlib.Core.Logic.{⊎-elim}
 use native.Mathlib.Omega.{arith}
-use native.Mathlib.Nat.{add-zero, zero-add, sub-zero, two-pow-succ, eq-or-lt-of-le}
+use native.Mathlib.Nat.{add-zero, zero-add, two-pow-succ, eq-or-lt-of-le}
 use borrow.Author.Tests.{le-leb, lt-leb}
-use lib.Pow.{pow-pos, pow-mono}
+use lib.Pow.{pow-mono}
 use Rattle.words.specs.Word.{powBelow, doubled, capacityOf}
 use Rattle.words.proofs.Powers.{le-or-lt, power-test}
 
@@ -62,36 +62,6 @@ module _ (w : ℕ) {r : ℕ} (h : r ≤ 2 ^ (w - 1)) where
 
   pub capacity-least : (k : ℕ) → r ≤ 2 ^ k → capacityOf w r ≤ 2 ^ k
   capacity-least k g = rw (from-one .is) (pow-mono (from-one .least k zero-le g))
-
--- ---- on the way to the capacity: p is a power of two, and doubling on from it ends there
-pub record Way (w r p : ℕ) : Type 0 where
-  pub turns : ℕ
-  pub within : turns ≤ w - 1
-  pub power : p ≡ 2 ^ turns
-  pub ends : doubled (w - 1 - turns) p r ≡ capacityOf w r
-
-pub way-start : (w r : ℕ) → Way w r 1
-way-start w r = record { turns = 0; within = zero-le; power = refl; ends = rw sub-zero }
-
-pub way-positive : {w r p : ℕ} → Way w r p → 0 < p
-way-positive s = rw (s .power) (pow-pos (s .turns))
-
-pub way-most : {w r p : ℕ} → Way w r p → p ≤ 2 ^ (w - 1)
-way-most s = rw (s .power) (pow-mono (s .within))
-
-pub way-on : {w r p : ℕ} → r ≤ 2 ^ (w - 1) → p < r → Way w r p → Way w r (p + p)
-way-on {w} {r} {p} h l s =
-    let b : s .turns < w - 1 = exponent-lt (s .within) (rw (s .power) at l) h in
-    let e : w - 1 - s .turns ≡ suc (w - 1 - suc (s .turns)) = omega arith in
-    record {
-      turns = suc (s .turns);
-      within = b;
-      power = rw (s .power) (sym (two-pow-succ (s .turns)));
-      ends = sym (doubled-next (w - 1 - suc (s .turns)) l) ∙ rw e at (s .ends);
-    }
-
-pub way-end : {w r p : ℕ} → r ≤ p → Way w r p → p ≡ capacityOf w r
-way-end {w} {r} {p} l s = sym (doubled-done (w - 1 - s .turns) l) ∙ s .ends
 
 -- ---- what it comes to
 

@@ -2,3 +2,4 @@
 pub mod Laws
 pub mod Powers
 pub mod Doubling
+pub mod Zeros

@@ -84,16 +84,17 @@ pub fn is_capacity(c: u32) -> bool
     if c == 0 { false } else { c & (c - 1) == 0 }
 }
 
-// The capacity for a request: the next power of two. It is wide while it doubles, so that no request wraps.
+// The capacity for a request: the next power of two. What the leading zeros of the number before the request leave of its 64 digits
+// is the exponent, so that 1 gets 2^0. No number is before 0, which gets 1 too.
 pub fn capacity(request: u64) -> u32
     requires { ⌜ request ≤ 2 ^ (width - 1) ⌝ }
     ensures { λ r. ⌜ r ≡ capacityOf width request ⌝ }
 {
-    let mut p: u64 = 1;
-    while p < request {
-        p = p + p;
+    if request == 0 {
+        return 1;
     }
-    p as u32
+    let exponent = 64 - u64::leading_zeros(request - 1);
+    1 << exponent
 }
 
 // How many to take. The rule's number is compared at its full width: cut first, it could come out smaller.

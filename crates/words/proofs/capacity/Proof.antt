@@ -1,35 +1,31 @@
--- `words::capacity` meets its contract: the loop stays on the way of `doubled`, and what is left of the request falls.
+-- `words::capacity` meets its contract: the leading zeros of the number before the request leave the exponent.
 use Prim.Native.Nat.{_-_}
+use mathlib.Core.Path.{sym}
 use native.Mathlib.Omega.{arith}
+use native.Mathlib.Nat.{le-trans}
+use lib.Count.{leading-le}
 use Rattle.words.specs.Edition.{width}
-use Rattle.words.proofs.Doubling.{Way, way-start, way-positive, way-most, way-on, way-end}
+use Rattle.words.proofs.Doubling.{doubled-done}
+use Rattle.words.proofs.Zeros.{zeros-leave, capacity-by-zeros}
+use borrow.Author.Needs.{needs}
 use Rattle.words.proofs.capacity.Statement.{statement}
 use Rattle.words.proofs.capacity.Tie as tie
 
-abbrev Inv-loop : tie.InvT-loop
-Inv-loop request p₀ p = Way width request p
+returns : tie.Need-returns
+returns c = sym (doubled-done (width - 1) (omega arith))
 
-abbrev μ-loop : tie.MeasureT-loop
-μ-loop request p₀ p = request - p
+sub-exponent : tie.Need-sub-exponent
+sub-exponent c = search needs
 
-loop-holds : tie.Need-loop-holds Inv-loop μ-loop
-loop-holds c = way-start width _
+sub-exponent-2 : tie.Need-sub-exponent-2
+sub-exponent-2 c = le-trans (leading-le 64 _) (omega arith)
 
-add-p : tie.Need-add-p Inv-loop μ-loop
-add-p c = omega (arith, way-most (c .before .loop .inv))
+shl-result : tie.Need-shl-result
+shl-result c =
+    omega (arith, zeros-leave width 64 {r = c .before .args .request} (omega arith) (omega arith) (omega arith) (omega arith))
 
-loop-less : tie.Need-loop-less Inv-loop μ-loop
-loop-less c = omega (arith, way-positive (c .before .loop .inv))
-
-loop-again : tie.Need-loop-again Inv-loop μ-loop
-loop-again c = way-on (omega arith) (omega arith) (c .before .loop .inv)
-
-cast-result : tie.Need-cast-result Inv-loop μ-loop
-cast-result c = omega (arith, way-most (c .before .loop .inv))
-
-returns : tie.Need-returns Inv-loop μ-loop
-returns c = way-end (omega arith) (c .before .loop .inv)
+returns-2 : tie.Need-returns-2
+returns-2 c = capacity-by-zeros width 64 (omega arith) (omega arith) (omega arith) (omega arith) 32 (omega arith)
 
 pub capacity-spec : {M : Type 1} → statement M
-capacity-spec =
-    tie.close (tie.spec Inv-loop μ-loop loop-holds add-p loop-less loop-again cast-result returns)
+capacity-spec = tie.close (tie.spec returns sub-exponent sub-exponent-2 shl-result returns-2)
