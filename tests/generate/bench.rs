@@ -33,7 +33,7 @@ pub fn write_all(out: &mut impl Write) -> io::Result<()> {
         add(format!("marks-out-of-place-{}", word), marks(kind));
         add(format!("weak-everywhere-{}", word), weak_everywhere(kind));
         for requests in around_powers() {
-            add(format!("requests-{}-to-{}-{}", requests[0], requests[requests.len() - 1], word), spares(kind, &requests));
+            add(format!("requests-from-{}-{}", requests[0], word), spares(kind, &requests));
         }
     }
     all.extend(texts());
