@@ -1,4 +1,6 @@
 // A machine in plain words: 64-bit numbers in one lent slice, as a host in another language holds it.
+#![tactic(auto)]
+
 pub mod write; // a place as numbers
 pub mod read; // numbers as a place
 pub mod layout; // where the words stand

@@ -1,4 +1,6 @@
 // The machine where it stands: an entry for a host that lends it, and does not hand it over.
+#![tactic(auto)]
+
 ghost use Rattle.std.specs.Prelude.{◌≡◌};
 ghost use Rattle.words.specs.Edition.{width};
 ghost use Rattle.tables.specs.Machine.{most};

@@ -1,4 +1,6 @@
 // The machine: a table of party records and queue words, handed in and back. Open it, then begin, step and run alone.
+#![tactic(auto)]
+
 ghost use Rattle.std.specs.Prelude.{◌≡◌, List, ℕ, ◌%◌, ◌<◌};
 ghost use Rattle.words.specs.Edition.{width};
 ghost use Rattle.tables.specs.Machine.{most};

@@ -1,5 +1,7 @@
 // One queue's accesses, and the access tables in code: what a step wants of which queue, and what follows from what it saw.
 // lifo.rt and fifo.rt stand beside st3's lifo.rs and fifo.rs; what both kinds share has modules of its own.
+#![tactic(auto)]
+
 ghost use Rattle.std.specs.Prelude.{◌≡◌, ◌≤◌};
 ghost use Rattle.words.specs.Edition.{width};
 ghost use Rattle.tables.specs.Row as Y;

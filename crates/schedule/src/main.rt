@@ -1,4 +1,6 @@
 // Reads a schedule on standard input and writes its output. What that is stands in text::run; here bytes are only moved.
+#![tactic(auto)]
+
 ghost use Rattle.std.specs.Prelude.{◌≤◌, length};
 
 use text::run;

@@ -1,4 +1,6 @@
 // The text side of the schedule program: its lines read, its answers written.
+#![tactic(auto)]
+
 use tables::call::{Call, Mark};
 use tables::state::Kind;
 

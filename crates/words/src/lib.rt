@@ -1,4 +1,6 @@
 // Words that turn over, two words in one, and the capacities of a ring of slots.
+#![tactic(auto)]
+
 ghost use Rattle.std.specs.Prelude.{◌≡◌, ◌-◌, ◌^◌, ◌≤◌, nat_lt};
 ghost use Rattle.words.specs.Word.{plus, minus, packed, Unpacked, slot_of, Pow, pow_below, capacity_of, least_of};
 ghost use Rattle.words.specs.Edition.{width};
