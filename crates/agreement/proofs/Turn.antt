@@ -101,25 +101,25 @@ module _ (w half n : ℕ) (two : 2 ^ w ≡ half + half) {cells : ℕ → Cell} {
       Place.Idle Place.Idle Answer.Pending _ refl
       (record { wait_is = o.wait_is; hand_is = o.hand_is; at = tt }) refl (λ fm g₂ l₂ _. tt) (λ y h. h) (λ g₂. tt) tt) refl
   step_go (Place.Lifo x) e₁ e₂ pr =
-      at_site (Place.Lifo x) (lifo_row w (context_at cells members p (Place.Lifo x) mark) x) Whose.Own (lifo_mine w _ x)
+      at_site (Place.Lifo x) (lifo_row w (context_at cells members p (Place.Lifo x) mark) x) Whose.Own (lifo_mine w (context_at cells members p (Place.Lifo x) mark) x)
       (own_go w n inv p (Place.Lifo x) mark e₁ e₂ _ _ (lifo_any w p (members p).fill (members p).items (members p).hand
       (cells (source_of p (Place.Lifo x))).kind (members p).drain mark (cells p).kind (inv.ok p) x (facts _ e₁)) refl)
   step_go (Place.Fifo x) e₁ e₂ pr =
-      at_site (Place.Fifo x) (fifo_row w (context_at cells members p (Place.Fifo x) mark) x) Whose.Own (fifo_mine w _ x)
+      at_site (Place.Fifo x) (fifo_row w (context_at cells members p (Place.Fifo x) mark) x) Whose.Own (fifo_mine w (context_at cells members p (Place.Fifo x) mark) x)
       (own_go w n inv p (Place.Fifo x) mark e₁ e₂ _ _ (fifo_any w p (members p).fill (members p).items (members p).hand
       (cells (source_of p (Place.Fifo x))).kind (members p).drain mark (cells p).kind (inv.ok p) x (facts _ e₁)) refl)
   step_go (Place.Own x) e₁ e₂ pr =
-      at_site (Place.Own x) (own_row w (context_at cells members p (Place.Own x) mark) x) Whose.Own (own_mine w _ x)
+      at_site (Place.Own x) (own_row w (context_at cells members p (Place.Own x) mark) x) Whose.Own (own_mine w (context_at cells members p (Place.Own x) mark) x)
       (own_go w n inv p (Place.Own x) mark e₁ e₂ _ _ (own_step w p (members p).fill (members p).items (members p).hand (cells p).kind
       (cells p).kind (members p).drain (inv.ok p) mark x (inv.drn p) (facts _ e₁)) refl)
   step_go (Place.Book h b) e₁ e₂ pr =
-      at_site (Place.Book h b) (book_row w (context_at cells members p (Place.Book h b) mark) h b) Whose.Source (book_theirs w _ h b)
+      at_site (Place.Book h b) (book_row w (context_at cells members p (Place.Book h b) mark) h b) Whose.Source (book_theirs w (context_at cells members p (Place.Book h b) mark) h b)
       (src_go w n inv p pn (Place.Book h b) mark e₁ e₂ (booking_source p h) refl (booking_who p h) (booking_mine p h) _ _
       (book_step w half two p (members p).fm (members p).items (members p).drain mark (cells p).kind (cells p).cap h b
       (cells (booking_source p h)).kind (inv.ok (booking_source p h)) pr (at_source _ e₂)) refl)
   step_go (Place.Move x) e₁ e₂ pr = move_go x e₁ e₂
   step_go (Place.Close e c) e₁ e₂ pr =
-      at_site (Place.Close e c) (close_row w (context_at cells members p (Place.Close e c) mark) e c) Whose.Source (close_theirs w _ e c)
+      at_site (Place.Close e c) (close_row w (context_at cells members p (Place.Close e c) mark) e c) Whose.Source (close_theirs w (context_at cells members p (Place.Close e c) mark) e c)
       (src_go w n inv p pn (Place.Close e c) mark e₁ e₂ (closing_source p e) refl (closing_who p e) (closing_mine p e) _ _
       (close_step w p (members p).fm (members p).items (members p).drain mark (cells p).kind (cells (closing_source p e)).kind
       (cells p).cap e c (cells (closing_source p e)).kind (inv.ok (closing_source p e)) (at_source _ e₂)) refl)

@@ -10,7 +10,7 @@ use tables::state::{Kind, MOST, Machine, Queue};
 use words::Position;
 
 // A queue's stretch of the items: where it starts, its length, and which positions rest.
-#[derive(Drop)]
+#[derive(Clone, Copy)]
 pub struct Resting {
     pub base: usize,
     pub capacity: u32,

@@ -13,7 +13,7 @@ use tables::state::{MOST, Machine};
 
 // A step's row looked up on a record that passed the record test: the refusal that meets it, the queue that it reaches and the
 // access that it makes there.
-#[derive(Drop)]
+#[derive(Clone, Copy)]
 pub struct Look {
     pub code: u8,
     pub site: usize,
@@ -21,7 +21,7 @@ pub struct Look {
 }
 
 // The record test made once for many lines, and where each queue's stretch of the items starts.
-#[derive(Drop)]
+#[derive(Clone, Copy)]
 pub struct Starts {
     pub sound: bool,
     pub at: [usize; MOST],

@@ -11,7 +11,7 @@ use tables::place::Place;
 use tables::state::{Kind, MOST, Queue};
 
 // What the test has found so far, the capacities so far, and where the two queues' stretches start.
-#[derive(Drop)]
+#[derive(Clone, Copy)]
 pub struct Survey {
     pub sound: bool,
     pub total: usize,

@@ -8,7 +8,7 @@ use tables::state::Queue;
 use words::Position;
 
 // What an access leaves of the words, and shows. The slots are lent: what it leaves of them stands there.
-#[derive(Drop)]
+#[derive(Clone, Copy)]
 pub struct Performed {
     pub queue: Queue,
     pub seen: Seen,

@@ -6,7 +6,7 @@ use super::state::{Drain, Kind};
 use words::Position;
 
 // One memory access to one queue. `Touch` touches nothing.
-#[derive(Drop)]
+#[derive(Clone, Copy)]
 pub enum Access {
     Touch,
     LoadPushes,
@@ -20,7 +20,7 @@ pub enum Access {
 }
 
 // What an access shows its party: a word, the packed word, a token; whether a compare-exchange stored.
-#[derive(Drop)]
+#[derive(Clone, Copy)]
 pub struct Seen {
     pub word: u32,
     pub packed: u64,
@@ -29,21 +29,21 @@ pub struct Seen {
 }
 
 // Whose queue a row's access is to: the party's own, or the source.
-#[derive(Drop)]
+#[derive(Clone, Copy)]
 pub enum Whose {
     Own,
     Source,
 }
 
 // A row's left columns: whose queue, which access.
-#[derive(Drop)]
+#[derive(Clone, Copy)]
 pub struct Wanted {
     pub whose: Whose,
     pub access: Access,
 }
 
 // What a row knows besides its place: the own queue's kind and capacity, the source's kind, the party's drain, the step's mark.
-#[derive(Drop)]
+#[derive(Clone, Copy)]
 pub struct Context {
     pub kind: Kind,
     pub capacity: u32,
@@ -53,7 +53,7 @@ pub struct Context {
 }
 
 // What a row comes to: the next place and drain, the answer, what was done to the lists.
-#[derive(Drop)]
+#[derive(Clone, Copy)]
 pub struct Next {
     pub place: Place,
     pub drain: Drain,
@@ -62,7 +62,7 @@ pub struct Next {
 }
 
 // What a step wants to be carried: nothing, a number, or a token or end.
-#[derive(Drop)]
+#[derive(Clone, Copy)]
 pub enum Wish {
     Nothing,
     Number,

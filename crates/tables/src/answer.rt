@@ -4,7 +4,7 @@ ghost use Rattle.tables.specs.Answer as Aw;
 ghost use Rattle.tables.specs.Effect as Ef;
 
 // Document 01's answers; `Pending` while the call is under way.
-#[derive(Drop)]
+#[derive(Clone, Copy)]
 pub enum Answer {
     Pending,
     Pushed,
@@ -27,7 +27,7 @@ pub enum Answer {
 
 // What an effect does to the plain lists. `TakeLanded` is a take's landing, with its last token in hand; `Dropped` has a count, 1
 // for a single step.
-#[derive(Drop)]
+#[derive(Clone, Copy)]
 pub enum Change {
     None,
     Offered(u64),
@@ -42,7 +42,7 @@ pub enum Change {
 }
 
 // The values that an answer or an effect names: a token, a count, both in that order, or none.
-#[derive(Drop)]
+#[derive(Clone, Copy)]
 pub enum Values {
     None,
     Token(u64),
@@ -51,7 +51,7 @@ pub enum Values {
 }
 
 // An effect names its party and queue (landed: the source).
-#[derive(Drop)]
+#[derive(Clone, Copy)]
 pub struct Effect {
     pub party: u64,
     pub queue: u64,
@@ -59,14 +59,14 @@ pub struct Effect {
 }
 
 // A run alone has at most three, dropped ones in a row as one; any other act has one at most.
-#[derive(Drop)]
+#[derive(Clone, Copy)]
 pub struct Effects {
     pub count: u32,
     pub list: [Effect; 3],
 }
 
 // What an act says, besides the machine it leaves: steps are a run alone's, refusal 0 is none.
-#[derive(Drop)]
+#[derive(Clone, Copy)]
 pub struct Reply {
     pub answer: Answer,
     pub effects: Effects,
@@ -77,14 +77,14 @@ pub struct Reply {
 // ---- the rows in code
 
 // An answer's row: this paper's number, and the values that it names.
-#[derive(Drop)]
+#[derive(Clone, Copy)]
 pub struct AnswerColumns {
     pub number: u8,
     pub values: Values,
 }
 
 // An effect's row, likewise.
-#[derive(Drop)]
+#[derive(Clone, Copy)]
 pub struct ChangeColumns {
     pub number: u8,
     pub values: Values,

@@ -1,7 +1,7 @@
 // What is asked of a machine: calls with their count rules, and the mark of a step.
 
 // How many to book of the n that a booking sees. `Given` is the number carried by the step that reads n.
-#[derive(Drop)]
+#[derive(Clone, Copy)]
 pub enum Rule {
     All,
     Half,
@@ -10,7 +10,7 @@ pub enum Rule {
 }
 
 // What a step line says after the party: nothing, weak, given N (a number or a token), end.
-#[derive(Drop)]
+#[derive(Clone, Copy)]
 pub enum Mark {
     Plain,
     Weak,
@@ -19,7 +19,7 @@ pub enum Mark {
 }
 
 // The calls that a party can begin.
-#[derive(Drop)]
+#[derive(Clone, Copy)]
 pub enum Call {
     Push(u64),
     Pop,
@@ -34,7 +34,7 @@ pub enum Call {
 }
 
 // The three things that can be done with a party: begin a call, make one step, run alone up to a budget of steps.
-#[derive(Drop)]
+#[derive(Clone, Copy)]
 pub enum Act {
     Begin(Call),
     Step(Mark),

@@ -4,14 +4,14 @@ use super::call::Rule;
 use words::Position;
 
 // Which of the two moves tokens: a steal, or a take, which keeps its last token in hand.
-#[derive(Drop)]
+#[derive(Clone, Copy)]
 pub enum Transfer {
     Steal,
     Take,
 }
 
 // A call of the owner that first loads its own words, to see the room.
-#[derive(Drop)]
+#[derive(Clone, Copy)]
 pub enum OwnerCall {
     Push(u64),
     Extend,
@@ -19,7 +19,7 @@ pub enum OwnerCall {
 }
 
 // A steal or a take under way.
-#[derive(Drop)]
+#[derive(Clone, Copy)]
 pub struct TransferCall {
     pub source: u64,
     pub rule: Rule,
@@ -27,14 +27,14 @@ pub struct TransferCall {
 }
 
 // Whoever loads the own words to see the room.
-#[derive(Drop)]
+#[derive(Clone, Copy)]
 pub enum RoomCall {
     Owner(OwnerCall),
     Transfer(TransferCall),
 }
 
 // What the destination loads found: the word that the store goes over, the tail, the room.
-#[derive(Drop)]
+#[derive(Clone, Copy)]
 pub struct Destination {
     pub word: u32,
     pub tail: u32,
@@ -42,7 +42,7 @@ pub struct Destination {
 }
 
 // Whoever books.
-#[derive(Drop)]
+#[derive(Clone, Copy)]
 pub enum BookingCall {
     Transfer(TransferCall, Destination),
     Drain(Rule),
@@ -50,7 +50,7 @@ pub enum BookingCall {
 
 // Booked tokens on their way: `count` of them from position `from` of the source on, to the destination's tail, where the store
 // goes over `word`.
-#[derive(Drop)]
+#[derive(Clone, Copy)]
 pub struct BookedTokens {
     pub source: u64,
     pub transfer: Transfer,
@@ -61,7 +61,7 @@ pub struct BookedTokens {
 }
 
 // Whoever closes a booking, with what its answer will say.
-#[derive(Drop)]
+#[derive(Clone, Copy)]
 pub enum ClosingCall {
     Steal { source: u64, count: u32 },
     Take { source: u64, token: u64, count: u32 },
@@ -70,7 +70,7 @@ pub enum ClosingCall {
 }
 
 // LIFO's places on the own queue: the loads that push, extend, spare, steal and take begin with; pop; empty.
-#[derive(Drop)]
+#[derive(Clone, Copy)]
 pub enum LifoPlace {
     LoadPushes(RoomCall),
     LoadPacked {
@@ -97,7 +97,7 @@ pub enum LifoPlace {
 }
 
 // FIFO's: the loads of push, extend and spare; the destination loads of steal and take; pop; empty.
-#[derive(Drop)]
+#[derive(Clone, Copy)]
 pub enum FifoPlace {
     LoadPacked(OwnerCall),
     LoadTail { call: OwnerCall, packed: u64 },
@@ -111,7 +111,7 @@ pub enum FifoPlace {
 }
 
 // What both kinds do on the own queue once the loads are done.
-#[derive(Drop)]
+#[derive(Clone, Copy)]
 pub enum OwnPlace {
     PushWrite {
         token: u64,
@@ -140,7 +140,7 @@ pub enum OwnPlace {
 }
 
 // A booking's loads and its compare-exchange, by the source's kind.
-#[derive(Drop)]
+#[derive(Clone, Copy)]
 pub enum BookPlace {
     LifoPacked,
     LifoCompleted {
@@ -166,7 +166,7 @@ pub enum BookPlace {
 }
 
 // Booked tokens moved one by one, then the destination's store.
-#[derive(Drop)]
+#[derive(Clone, Copy)]
 pub enum MovePlace {
     ReadSlot {
         booked: BookedTokens,
@@ -184,7 +184,7 @@ pub enum MovePlace {
 }
 
 // The end of a booking, by the source's kind.
-#[derive(Drop)]
+#[derive(Clone, Copy)]
 pub enum ClosePlace {
     StoreCompleted { head: u32 },
     LoadHeads,
@@ -192,7 +192,7 @@ pub enum ClosePlace {
 }
 
 // A party's place, by role.
-#[derive(Drop)]
+#[derive(Clone, Copy)]
 pub enum Place {
     Idle,
     Lifo(LifoPlace),

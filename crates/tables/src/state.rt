@@ -6,7 +6,7 @@ use super::place::Place;
 pub const MOST: usize = 16;
 
 // Which of the two queues of the Rust crate it is.
-#[derive(Drop)]
+#[derive(Clone, Copy)]
 pub enum Kind {
     Lifo,
     Fifo,
@@ -14,7 +14,7 @@ pub enum Kind {
 
 // A queue's words. `pushes` is LIFO's push count and FIFO's tail; `packed` is LIFO's (pop count, booked head) and FIFO's (worker
 // head, stealer head); `completed` is LIFO's completed head, which FIFO lacks.
-#[derive(Drop)]
+#[derive(Clone, Copy)]
 pub struct Queue {
     pub kind: Kind,
     pub capacity: u32,
@@ -24,14 +24,14 @@ pub struct Queue {
 }
 
 // A drain's next token and its end; it is open where the two differ.
-#[derive(Drop)]
+#[derive(Clone, Copy)]
 pub struct Drain {
     pub at: u32,
     pub end: u32,
 }
 
 // Where a party's call stands (idle: it has none), and its drain.
-#[derive(Drop)]
+#[derive(Clone, Copy)]
 pub struct Party {
     pub place: Place,
     pub drain: Drain,

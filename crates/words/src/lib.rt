@@ -6,15 +6,15 @@ ghost use Rattle.words.specs.Word.{plus, minus, packed, Unpacked, slot_of, Pow, 
 ghost use Rattle.words.specs.Edition.{width};
 
 // A position counts on and turns over; only `slot_of` makes a slot of it.
-#[derive(Drop)]
+#[derive(Clone, Copy)]
 pub struct Position(pub u32);
 
 // An index below the capacity.
-#[derive(Drop)]
+#[derive(Clone, Copy)]
 pub struct Slot(pub u32);
 
 // The two short words that a long one holds.
-#[derive(Drop)]
+#[derive(Clone, Copy)]
 pub struct Halves {
     pub high: u32,
     pub low: u32,
