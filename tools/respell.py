@@ -75,7 +75,7 @@ def main():
                 if n not in turned and n not in theirs and re.match(r"[a-z]+[a-z0-9]*[A-Z]", n) and "-" not in n:
                     turned[n] = snake(n)
         for n, s in sorted(turned.items()):
-            if s in used and s not in turned.values() or list(turned.values()).count(s) > 1:
+            if p.endswith(".antt") and s in used or list(turned.values()).count(s) > 1:
                 print(f"{os.path.relpath(p, root)}: {n} becomes {s}, which stands there already")
                 fell = 1
         if page:

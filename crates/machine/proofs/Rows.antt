@@ -199,8 +199,8 @@ module _ {m : Machine} {starts : List ℕ} (xs : List ℕ) (fit : Fit m starts (
             ∙ ap (λ (l : Look). perform (queue_at m l.site) (stretch (base_of l.site m.queue) (queue_at m l.site).capacity xs)
             l.access (is_weak mark)) (look_is here)
 
-        next_at : next ≡ next_at width m xs who mark
-        next_at =
+        next_at_lem : next ≡ next_at width m xs who mark
+        next_at_lem =
             next_is
             ∙ ap₂ (λ (a b : ℕ). (row_of width (context_for m a b mark) (party_at m a).place).after seen) (at_who here) (at_source here)
             ∙ ap (λ (d : Accessed). (row_at width m who mark).after d.seen) done_is
@@ -219,13 +219,13 @@ module _ {m : Machine} {starts : List ℕ} (xs : List ℕ) (fit : Fit m starts (
         step_taken = record {
           machine = ap (λ (o : Result). o.machine) step_is ∙ sym machine_is;
           items = ap (λ (o : Result). o.items) step_is ∙ sym items_is;
-          answer = ap (λ (o : Result). o.reply.answer) step_is ∙ sym (ap (λ (a : Next). a.answer) next_at);
+          answer = ap (λ (o : Result). o.reply.answer) step_is ∙ sym (ap (λ (a : Next). a.answer) next_at_lem);
           refusal = ap (λ (o : Result). o.reply.refusal) step_is;
         }
           where
             machine_is : stored m x r.site next q'
                 ≡ stored m who (site_at width m who mark) (next_at width m xs who mark) (access_at width m xs who mark).queue
-            machine_is = λ i. stored m (at_who here i) (site_is i) (next_at i) (done_is i).queue
+            machine_is = λ i. stored m (at_who here i) (site_is i) (next_at_lem i) (done_is i).queue
 
             items_is : restretched (get_or starts r.site 0) (queue_at m r.site).capacity slots' xs
                 ≡ restretched (base_of (site_at width m who mark) m.queue) (queue_at m (site_at width m who mark)).capacity

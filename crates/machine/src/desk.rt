@@ -5,7 +5,7 @@ use tables::answer::{Answer, Effect, Reply};
 use tables::state::{Party, Queue};
 
 // Where the source is the own queue, `own` has its words.
-#[derive(Drop)]
+#[derive(Clone, Copy)]
 pub struct Desk {
     pub party: Party,
     pub own: Queue,
@@ -13,7 +13,7 @@ pub struct Desk {
 }
 
 // Whose step it is, which source it has, and where the two queues' stretches of the items start.
-#[derive(Drop)]
+#[derive(Clone, Copy)]
 pub struct Stretches {
     pub who: u64,
     pub from: u64,
@@ -23,7 +23,7 @@ pub struct Stretches {
 
 // A row looked up: what it knows, the access it makes, to which queue (away: the source, where that is another one), and where
 // that queue's stretch starts.
-#[derive(Drop)]
+#[derive(Clone, Copy)]
 pub struct Reached {
     pub context: Context,
     pub access: Access,
@@ -33,7 +33,7 @@ pub struct Reached {
 }
 
 // What a step leaves on the desk.
-#[derive(Drop)]
+#[derive(Clone, Copy)]
 pub struct Stepped {
     pub desk: Desk,
     pub answer: Answer,
@@ -41,7 +41,7 @@ pub struct Stepped {
 }
 
 // What an act leaves on the desk, and what is said.
-#[derive(Drop)]
+#[derive(Clone, Copy)]
 pub struct Turn {
     pub desk: Desk,
     pub reply: Reply,

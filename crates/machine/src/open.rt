@@ -10,7 +10,7 @@ use tables::place::Place;
 use tables::state::{Drain, Kind, MOST, Machine, Opened, Party, Queue};
 
 // A machine with its queues opened, and the sum of their capacities.
-#[derive(Clone, Copy)]
+#[derive(Drop)]
 struct Filled {
     machine: Machine,
     total: u64,
@@ -147,7 +147,7 @@ pub fn open(
             refusal: 7,
         };
     }
-    let f = fill(closed, kind, requests, positions, n);
+    let f = fill(blank(kind), kind, requests, positions, n);
     if (items.len() as u64) < f.total {
         return Opened {
             machine: closed,
