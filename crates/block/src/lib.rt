@@ -11,7 +11,7 @@ pub mod open; // a fresh machine
 pub mod look; // what a host reads off
 
 // What a call is about: its tag, and the rule, the source and the number (a token, or the rule's) that go with it.
-#[derive(Drop)]
+#[derive(Clone, Copy)]
 pub struct CallWords {
     pub tag: u64,
     pub rule: u64,
@@ -21,7 +21,7 @@ pub struct CallWords {
 
 // A place: its role (0 idle, 1 LIFO's, 2 FIFO's, 3 own, 4 booking, 5 moving, 6 closing), its row there, and what it
 // remembers: what its call is about, a packed word, and the short words in the order in which the place names them.
-#[derive(Drop)]
+#[derive(Clone, Copy)]
 pub struct PlaceWords {
     pub role: u64,
     pub row: u64,

@@ -147,7 +147,7 @@ pub fn open(
             refusal: 7,
         };
     }
-    let f = fill(blank(kind), kind, requests, positions, n);
+    let f = fill(closed, kind, requests, positions, n);
     if (items.len() as u64) < f.total {
         return Opened {
             machine: closed,

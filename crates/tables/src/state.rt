@@ -38,7 +38,7 @@ pub struct Party {
 }
 
 // The machine: its first `parties` parties, each with the queue of the same number; the entries after them are there and unused.
-#[derive(Drop)]
+#[derive(Clone, Copy)]
 pub struct Machine {
     pub parties: u32,
     pub party: [Party; MOST],

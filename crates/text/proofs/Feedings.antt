@@ -5,7 +5,7 @@ use lib.Seq.{length-sets, take-length}
 use borrow.Author.Tests.{lt-leb}
 use Rattle.words.specs.Word.{pick}
 use Rattle.words.specs.Edition.{width}
-use Rattle.bytes.specs.Bytes.{slice, index_of, index_after}
+use Rattle.text.specs.Bytes.{slice, index_of, index_after}
 use Rattle.tables.specs.Machine.{most}
 use Rattle.text.specs.Session.{State, Turn, next_of}
 use Rattle.text.specs.declared.Line.TheVariants as Line

@@ -2,7 +2,7 @@
 use Rattle.std.proofs.Common.{◌≡◌, ℕ, suc, ◌+◌, ◌-◌, ◌≤◌, Bool, true, false, eqb, ltb, List, [], ◌∷◌, length, take, drop, refl, ◌∙◌, arith, length-drop, ltb-true, le-ltb, lt-ltb}
 use lib.Seq.{take-length}
 use Rattle.words.specs.Word.{pick}
-use Rattle.bytes.specs.Bytes.{slice, index_of, index_after}
+use Rattle.text.specs.Bytes.{slice, index_of, index_after}
 use Rattle.text.specs.declared.Line.TheVariants as Line
 use Rattle.text.specs.declared.Found.{Found}
 use Rattle.text.specs.Line.{read_of}

@@ -5,7 +5,7 @@ use types.Run.{OneOf, miss}
 use lib.Seq.{length-sets, take-length}
 use Rattle.words.specs.Edition.{width}
 use Rattle.words.specs.Word.{pick, Pow}
-use Rattle.bytes.specs.Bytes.{slice, index_of}
+use Rattle.text.specs.Bytes.{slice, index_of}
 use Rattle.tables.specs.declared.access.Context.{Context}
 use Rattle.tables.specs.declared.access.Next.{Next}
 use Rattle.tables.specs.declared.access.Whose.{Whose}

@@ -6,7 +6,7 @@ use lib.Seq.{take-length}
 use lib.Dec.{leb-suc-suc}
 use borrow.Author.Tests.{lt-leb}
 use Rattle.words.specs.Word.{pick}
-use Rattle.bytes.specs.Bytes.{slice, index_of, index_after}
+use Rattle.text.specs.Bytes.{slice, index_of, index_after}
 use Rattle.text.specs.Ascii.{same}
 use Rattle.text.specs.Line.{Word, spelt, Field, field_of, onto, parted, fields, fields_from, ended}
 use Rattle.text.specs.Number.{number_of}

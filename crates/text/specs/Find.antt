@@ -1,7 +1,7 @@
 -- The next line of a block of input.
 use Rattle.std.specs.Prelude.{◌≡◌, ℕ, suc, ◌+◌, List, length, take, drop, ◌≢◌, nat_lt}
 use Rattle.words.specs.Word.{pick}
-use Rattle.bytes.specs.Bytes.{index_of}
+use Rattle.text.specs.Bytes.{index_of}
 use Rattle.text.specs.declared.Line.TheVariants as Line
 use Rattle.text.specs.declared.Found.{Found}
 use Rattle.text.specs.Line.{read_of}

@@ -1,4 +1,5 @@
 -- The definitions that the contracts of `text` cite.
+pub mod Bytes
 pub mod Ascii
 pub mod Number
 pub mod Line

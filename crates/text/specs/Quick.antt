@@ -2,7 +2,7 @@
 use Rattle.std.specs.Prelude.{◌≡◌, ℕ, suc, ◌+◌, ◌-◌, ◌*◌, ◌<◌, ◌≤◌, Bool, true, false, List, [], ◌∷◌, ◌++◌, length, take, drop, ◌≢◌, nat_le, slice_index, slice_range}
 use Rattle.std.proofs.Math.Option.{Option, some}
 use Rattle.words.specs.Word.{pick}
-use Rattle.bytes.specs.Bytes.{index_of}
+use Rattle.text.specs.Bytes.{index_of}
 use Rattle.text.specs.declared.quick.Digits.{Digits}
 use Rattle.text.specs.declared.quick.Ruling.{Ruling}
 use Rattle.text.specs.declared.quick.Aiming.{Aiming}

@@ -3,7 +3,7 @@ ghost use Rattle.std.specs.Prelude.{◌≡◌, ◌≤◌, length};
 ghost use Rattle.words.specs.Edition.{width};
 ghost use Rattle.text.specs.Find.{next_line};
 
-use super::{Found, Line, quick, read};
+use super::{Found, Line, quick, read, scan};
 
 pub fn next_line(s: &[u8], from: usize) -> Found
     requires { from ≤ length s.now }
@@ -13,7 +13,7 @@ pub fn next_line(s: &[u8], from: usize) -> Found
     if quick.next != from {
         return quick;
     }
-    let end = bytes::scan::find(s, from, s.len(), 10);
+    let end = scan::find(s, from, s.len(), 10);
     if end == s.len() {
         return Found {
             line: Line::Malformed,

@@ -4,6 +4,7 @@
 use tables::call::{Call, Mark};
 use tables::state::Kind;
 
+mod scan; // where a byte first stands
 mod read; // a line, from its bytes
 mod write; // what is printed, as bytes
 mod find; // the next line of a block
@@ -12,7 +13,7 @@ mod lines; // many lines of a piece, the machine in one local
 mod session; // a run, line by line
 pub mod run; // a run whole, in pieces of input and output
 
-#[derive(Drop)]
+#[derive(Clone, Copy)]
 pub enum Line {
     Machine(Kind, u64),
     Queue(u64, u32),
@@ -22,7 +23,7 @@ pub enum Line {
 }
 
 // A line found in a block of input, and where the next one starts: where it was looked for, if no newline is left.
-#[derive(Drop)]
+#[derive(Clone, Copy)]
 pub struct Found {
     pub line: Line,
     pub next: usize,

@@ -60,32 +60,32 @@ const WEAK: u64 = 0x6b_61_65_77;
 const END: u64 = 0x0a_64_6e_65;
 
 // A number, and where its digits end.
-#[derive(Drop)]
+#[derive(Clone, Copy)]
 pub struct Digits {
     pub value: u64,
     pub next: usize,
 }
 
-#[derive(Drop)]
+#[derive(Clone, Copy)]
 pub struct Ruling {
     pub rule: Rule,
     pub next: usize,
 }
 
-#[derive(Drop)]
+#[derive(Clone, Copy)]
 pub struct Aiming {
     pub source: u64,
     pub rule: Rule,
     pub next: usize,
 }
 
-#[derive(Drop)]
+#[derive(Clone, Copy)]
 pub struct Calling {
     pub call: Call,
     pub next: usize,
 }
 
-#[derive(Drop)]
+#[derive(Clone, Copy)]
 pub struct Marking {
     pub mark: Mark,
     pub next: usize,

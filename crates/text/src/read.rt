@@ -6,7 +6,7 @@ ghost use Rattle.text.specs.Line.{fields_from};
 ghost use Rattle.text.specs.Number.{number_of};
 ghost use Rattle.text.specs.View as Vw;
 
-use super::Line;
+use super::{Line, scan};
 use tables::call::{Call, Mark, Rule};
 use tables::state::Kind;
 
@@ -59,14 +59,14 @@ const END: u64 = 0x1_65_6e_64;
 pub const LONGEST: usize = 120;
 
 // The number that a field is, where it is one.
-#[derive(Drop)]
+#[derive(Clone, Copy)]
 pub struct Num {
     pub good: bool,
     pub value: u64,
 }
 
 // One field as a word (0: there is no field) and as a number, and where the next one starts.
-#[derive(Drop)]
+#[derive(Clone, Copy)]
 pub struct Field {
     pub word: u64,
     pub good: bool,
@@ -74,32 +74,32 @@ pub struct Field {
     pub next: usize,
 }
 
-#[derive(Drop)]
+#[derive(Clone, Copy)]
 pub enum Ruled {
     Is(Rule),
     No,
 }
 
 // A source, then a rule.
-#[derive(Drop)]
+#[derive(Clone, Copy)]
 pub enum Aimed {
     At(u64, Rule),
     No,
 }
 
-#[derive(Drop)]
+#[derive(Clone, Copy)]
 pub enum Called {
     Is(Call),
     No,
 }
 
-#[derive(Drop)]
+#[derive(Clone, Copy)]
 pub enum Marked {
     Is(Mark),
     No,
 }
 
-#[derive(Drop)]
+#[derive(Clone, Copy)]
 pub enum Kinded {
     Is(Kind),
     No,
@@ -182,7 +182,7 @@ fn next_field(s: &[u8], at: usize) -> Field
             next: at,
         };
     }
-    let end = bytes::scan::find(s, at, s.len(), 9);
+    let end = scan::find(s, at, s.len(), 9);
     let word = code(&s[at..end]);
     let num = number(&s[at..end]);
     Field {

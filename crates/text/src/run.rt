@@ -11,7 +11,7 @@ ghost use Rattle.text.specs.Write.{Wrote};
 
 use super::session::Session;
 use super::write::ENOUGH;
-use super::{lines, session, write};
+use super::{lines, scan, session, write};
 use machine::rest::Resting;
 use machine::{rest, row};
 use tables::state::{Kind, MOST, Machine};
@@ -48,7 +48,7 @@ pub struct Rested {
 }
 
 // The line at hand with more of its bytes.
-#[derive(Drop)]
+#[derive(Clone, Copy)]
 struct Longer {
     held: [u8; KEPT],
     count: usize,
@@ -132,7 +132,7 @@ fn one_line(
     let session = run.session;
     let machine = run.machine;
     let held = run.held;
-    let end = bytes::scan::find(piece, used, piece.len(), 10);
+    let end = scan::find(piece, used, piece.len(), 10);
     let line = keep(held, run.count, &piece[used..end]);
     let bytes = line.held;
     let count = line.count;
@@ -284,7 +284,7 @@ fn put_part(
 }
 
 // How far the rest lines have come: among their parts, and in the buffer.
-#[derive(Drop)]
+#[derive(Clone, Copy)]
 struct Progress {
     queue: u64,
     part: u64,

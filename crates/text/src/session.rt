@@ -14,7 +14,7 @@ use tables::call::Act;
 use tables::state::{Kind, MOST, Machine};
 
 // What is wanted next: the machine line, a queue line, begin and step lines; Over: nothing, since the opening was refused.
-#[derive(Drop)]
+#[derive(Clone, Copy)]
 pub enum Stage {
     MachineLine,
     QueueLines,
@@ -22,7 +22,7 @@ pub enum Stage {
     Over,
 }
 
-#[derive(Drop)]
+#[derive(Clone, Copy)]
 pub struct Session {
     pub line: u64,
     pub stage: Stage,
@@ -34,7 +34,7 @@ pub struct Session {
 }
 
 // What a line leaves where it does not touch the machine; `put` is the place after what it prints.
-#[derive(Drop)]
+#[derive(Clone, Copy)]
 pub struct Said {
     pub session: Session,
     pub put: usize,

@@ -1,0 +1,20 @@
+// Where a byte first stands in a part of bytes.
+ghost use Rattle.std.specs.Prelude.{◌≡◌, ◌+◌, ◌≤◌, length};
+ghost use Rattle.text.specs.Bytes.{slice, index_of};
+
+// The part's end, where it has no such byte.
+pub fn find(s: &[u8], from: usize, end: usize, byte: u8) -> usize
+    requires ordered { from ≤ end }
+    requires within { end ≤ length s.now }
+    ensures index { result ≡ from + index_of byte (slice from end s.now) }
+    ensures bound { result ≤ end }
+{
+    let mut at = from;
+    while at < end {
+        if s[at] == byte {
+            return at;
+        }
+        at += 1;
+    }
+    end
+}
