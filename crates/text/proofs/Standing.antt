@@ -208,16 +208,16 @@ module _ (s : List ℕ) (at i v : ℕ) (h : at ≤ i) (p : Passed s at i v) wher
         digits = rw all (clean_then (take (i - at) (drop at s)) ((48 + d) ∷ []) p.digits (rw (le-leb 11 (48 + d) (omega arith))));
       }
 
-  number_of : at < i → i ≤ length s → number_of (take (i - at) (drop at s)) ≡ some v
-  number_of l k = number_some (take (i - at) (drop at s)) (λ z. omega (arith, z, length_part k)) ∙ p.number
+  number_of_lem : at < i → i ≤ length s → number_of (take (i - at) (drop at s)) ≡ some v
+  number_of_lem l k = number_some (take (i - at) (drop at s)) (λ z. omega (arith, z, length_part k)) ∙ p.number
 
   pub counted : at < i → i ≤ length s → i ≤ at + 2 → Counted s at v i
-  counted l k n = record { number = number_of l k; digits = p.digits; more = l; near = n }
+  counted l k n = record { number = number_of_lem l k; digits = p.digits; more = l; near = n }
 
   pub last_said : at < i → i < length s → get_or s i 0 ≡ 10 → i - at ≤ 40 → Says s at 41 (i + 1) (last_number (fields_at s at)) v
   last_said l k e n =
       says_end s at (i + 1) (take (i - at) (drop at s)) p.digits last_number v 41 (part s at i 10 h k e) (omega (arith, length_part (omega arith)))
-      (omega arith) (number_of l (omega arith))
+      (omega arith) (number_of_lem l (omega arith))
 
 pub few_one : (s : List ℕ) (at d : ℕ) → at < length s → get_or s at 0 ≡ 48 + d → d ≤ 9 → Counted s at d (at + 1)
 few_one s at d h e k =
@@ -297,10 +297,10 @@ whole w s from next line r =
     let e : line_of w (fields (take k (drop from s))) ≡ line = some-injective _ _ r.got in
     rw (lt-ltb k (length (drop from s)) h, l, le-leb k 120 (omega (arith, r.near, r.ends.after)), e, r.ends.after)
 
-pub step_line : (w : ℕ) (s : List ℕ) (from less next : ℕ) (line : Line) → drop from s ≡ ascii "step" ++ 9 ∷ drop (from + 5) s → less ≤ 100
+pub step_line_lem : (w : ℕ) (s : List ℕ) (from less next : ℕ) (line : Line) → drop from s ≡ ascii "step" ++ 9 ∷ drop (from + 5) s → less ≤ 100
     → Says s (from + 5) less next (some (step_line (fields_at s (from + 5)))) line → record { line = line; next = next } ≡ next_line w s from
 unfolding same
-step_line w s from less next line h n r =
+step_line_lem w s from less next line h n r =
     whole w s from next line
     (says_tab s from (from + 5) (ascii "step") refl (λ fs. some (line_of w fs)) line 121 less next _ _ h refl (omega arith) r r.got)
 
