@@ -1,5 +1,5 @@
 -- The line that ends at the next newline.
-use Rattle.std.proofs.Common.{◌≡◌, ℕ, suc, ◌+◌, ◌-◌, ◌≤◌, Bool, true, false, eqb, ltb, List, [], ◌∷◌, length, take, drop, refl, get_or, eq-eqb, ne_eqb, ◌<◌, ◌∙◌, arith, length-drop, ltb-true, le-ltb, lt-ltb}
+use Rattle.std.proofs.Common.{◌≡◌, ℕ, suc, ◌+◌, ◌-◌, ◌≤◌, Bool, true, false, eqb, ltb, List, [], ◌∷◌, length, take, drop, refl, get_or, get_or-take, drop-cons, drop_of_length-le, length-take-le, add-one, eq-eqb, ne_eqb, ◌<◌, ◌∙◌, arith, length-drop, ltb-true, le-ltb, lt-ltb}
 use lib.Seq.{take-length}
 use Rattle.words.specs.Word.{pick}
 use Rattle.text.specs.Bytes.{slice, index_of, index_after}
@@ -51,20 +51,22 @@ next_within w s from h = by (ltb k (length (drop from s))) refl
 
 -- ---- a search, byte by byte
 
-found_cons : (b : ℕ) (s : List ℕ) (at end : ℕ) → at < end → end ≤ length s
+found_cons : (s : List ℕ) (at end : ℕ) → at < end → end ≤ length s
     → slice at end s ≡ get_or s at 0 ∷ slice (at + 1) end s
 unfolding slice
-found_cons b s at end h k = ?
+found_cons s at end h k =
+    rw (drop-cons (take end s) at 0 (omega (arith, length-take-le end s k)), get_or-take end s at 0 h, add-one)
 
 pub found_here : (b : ℕ) (s : List ℕ) (at end : ℕ) → at < end → end ≤ length s → get_or s at 0 ≡ b → at + index_of b (slice at end s) ≡ at
 unfolding index_of index_after
-found_here b s at end h k e = rw (found_cons b s at end h k, eq-eqb _ _ e) (omega arith)
+found_here b s at end h k e = rw (found_cons s at end h k, eq-eqb _ _ e) (omega arith)
 
 pub found_further : (b : ℕ) (s : List ℕ) (at end : ℕ) → at < end → end ≤ length s → (get_or s at 0 ≡ b → ⊥)
     → at + index_of b (slice at end s) ≡ at + 1 + index_of b (slice (at + 1) end s)
 unfolding index_of index_after
-found_further b s at end h k ne = rw (found_cons b s at end h k, ne_eqb _ _ ne) (omega arith)
+found_further b s at end h k ne = rw (found_cons s at end h k, ne_eqb _ _ ne) (omega arith)
 
 pub found_end : (b : ℕ) (s : List ℕ) (at end : ℕ) → at ≡ end → end ≤ length s → at + index_of b (slice at end s) ≡ end
 unfolding slice index_of
-found_end b s at end e k = ?
+found_end b s at end e k =
+    rw (drop_of_length-le (take end s) {i = at} (omega (arith, e, length-take-le end s k))) (omega (arith, e))

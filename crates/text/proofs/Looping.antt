@@ -1,7 +1,5 @@
 -- Many lines of a piece, one after the other: what the loop keeps, and that each kind of line keeps it.
-use Rattle.std.proofs.Common.{◌≡◌, ℕ, suc, ◌+◌, ◌-◌, ◌%◌, ◌^◌, ◌<◌, ◌≤◌, Bool, true, false, ltb, List, [], ◌∷◌, length, get_or, take, drop, set, sym, refl, ap, ◌∙◌, subst, ap₂, true≢false, arith, length-drop, ltb-true, ne_eqb}
-use denote.Enum.Declared.{tag_of}
-use types.Run.{OneOf, miss}
+use Rattle.std.proofs.Common.{◌≡◌, ℕ, suc, ◌+◌, ◌-◌, ◌%◌, ◌^◌, ◌<◌, ◌≤◌, Bool, true, false, ltb, List, [], ◌∷◌, length, get_or, take, drop, set, sym, refl, ap, ⊎_elim, ◌⊎◌, ◌∙◌, subst, ap₂, true≢false, arith, length-drop, ltb-true, ne_eqb}
 use lib.Seq.{length-sets, take-length}
 use Rattle.words.specs.Edition.{width}
 use Rattle.words.specs.Word.{pick, Pow}
@@ -15,6 +13,7 @@ use Rattle.tables.specs.declared.answer.Answer.TheVariants as Answer
 use Rattle.tables.specs.declared.call.Act.TheVariants as Act
 use Rattle.tables.specs.declared.call.Call.{Call}
 use Rattle.tables.specs.declared.call.Mark.{Mark}
+use Rattle.tables.specs.declared.state.Kind.{Kind}
 use Rattle.tables.specs.declared.state.Machine.{Machine}
 use Rattle.tables.specs.declared.state.Party.{Party}
 use Rattle.tables.specs.Machine.{most, party_at, queue_at}
@@ -38,7 +37,6 @@ use Rattle.text.specs.Session.{Turn, state_of, at_line, counted, is_running, sta
 use Rattle.text.specs.Find.{next_line}
 use Rattle.text.specs.Feeding.{flow, kept_all, Gets}
 use Rattle.text.specs.Stepping.{begun, moved, Reaches}
-use Rattle.text.specs.contracts.Line as L
 use Rattle.text.proofs.Writing.{wrote_none}
 use Rattle.text.proofs.Feedings.{kept_take, kept_read, gets_self, gets_then, line_whole}
 
@@ -119,14 +117,17 @@ runs Stage.QueueLines e = absurd (true≢false (sym e))
 runs Stage.Running e = refl
 runs Stage.Over e = absurd (true≢false (sym e))
 
+-- a machine or queue line, or a malformed one
+abbrev pub IsOther : Line → Type 0
+IsOther l = ((k : Kind) × (n : ℕ) × (l ≡ Line.Machine k n)) ⊎ (((n : ℕ) × (p : ℕ) × (l ≡ Line.Queue n p)) ⊎ (l ≡ Line.Malformed))
+
 module _ (m : Machine) (xs : List ℕ) (t : Session) (run : is_running t.stage ≡ true) where
-  -- a machine or queue line, or a malformed one
-  other_is : (l : Line) → OneOf (0 ∷ 1 ∷ 4 ∷ []) (tag_of L.the_type l) → line_taken width most m xs t l ≡ stays m xs (refuses t 9)
+  other_is : (l : Line) → IsOther l → line_taken width most m xs t l ≡ stays m xs (refuses t 9)
   unfolding line_taken
   other_is (Line.Machine k n) h = rw (runs t.stage run)
   other_is (Line.Queue n p) h = rw (runs t.stage run)
-  other_is (Line.Begin p c) h = absurd (miss (0 ∷ 1 ∷ 4 ∷ []) 2 tt h)
-  other_is (Line.Step p k) h = absurd (miss (0 ∷ 1 ∷ 4 ∷ []) 3 tt h)
+  other_is (Line.Begin p c) h = absurd (⊎_elim (λ o. let e = o.2 in cc) (λ k. ⊎_elim (λ o. let e = o.2 in cc) (λ e. cc) k) h)
+  other_is (Line.Step p k) h = absurd (⊎_elim (λ o. let e = o.2 in cc) (λ k. ⊎_elim (λ o. let e = o.2 in cc) (λ e. cc) k) h)
   other_is Line.Malformed h = rw (runs t.stage run)
 
   acts_refused : (who code : ℕ) (o : Result) → o ≡ of_outcome (refused m xs code) → (code ≡ 0 → ⊥)
@@ -207,7 +208,7 @@ module _ {starts piece : List ℕ} {parties : ℕ} {m₀ : Machine} {xs₀ : Lis
           → line_taken width most m xs (counted (at_line line s)) r.line ≡ line_taken width most m xs (at_line line' s) r.line
       counted_is s = ap (λ (n : ℕ). line_taken width most m xs (at_line n s) r.line) (sym line'-is)
 
-  pub goes_other : OneOf (0 ∷ 1 ∷ 4 ∷ []) (tag_of L.the_type r.line) → (out' : List ℕ) (put' : ℕ) → Wrote out put (refused_of line' 9) out' put'
+  pub goes_other : IsOther r.line → (out' : List ℕ) (put' : ℕ) → Wrote out put (refused_of line' 9) out' put'
       → put' ≤ put + 128 → GoesOn m xs out' put'
   goes_other h = goes_on m xs (refused_of line' 9) (λ s run. other_is m xs (at_line line' s) run r.line h) g.fit refl refl
 

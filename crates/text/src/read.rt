@@ -292,6 +292,7 @@ fn aim_at(s: &[u8], at: usize) -> Aimed
 
 // ---- calls
 
+#[tactic(auto, unfolding(crate::specs::Line::plain_call))]
 fn plain_call(word: u64) -> Called
     ensures { Vw.view_called result ≡ L.plain_call (Vw.code_is word) }
 {

@@ -41,9 +41,9 @@ returns-else-s-at-ne10 c moved =
 pub returns-else-a-at-2 : goal.returns-else-a-at-2
 unfolding same
 returns-else-a-at-2 c moved =
-    let more = c.aim-a.ensures c.if-a-at.false in
+    let more = c.aim-a-in-1701536116.ensures c.if-a-at-2.false in
     says_tab _ _ _ (ascii "take") refl call_of _ 56 50 _ _ _
-    (word_byte _ _ _ (omega arith) c.four-w.ensures (ascii "take") refl refl c.in-1701536116.is 9 c.if-s-at-ne9.false)
+    (word_byte _ _ _ (omega arith) c.four-w.ensures (ascii "take") refl refl c.in-1701536116.is 9 c.if-s-at-ne9-2.false)
     refl (omega arith) more (ap take_call more.got)
 
 pub returns-else-s-at-ne10-2 : goal.returns-else-s-at-ne10-2
@@ -51,9 +51,9 @@ unfolding same plain_call
 returns-else-s-at-ne10-2 c moved =
     says_end _ _ _ (ascii "extend") refl call_of Call.Extend 56
     (then_byte c.args.s.now c.args.at 6 10 (ascii "extend")
-    (word_two _ _ _ (omega arith) c.four-w.ensures (ascii "exte") refl refl c.in-1702131813.is _ (110 ∷ 100 ∷ []) c.two.ensures refl refl
+    (word_two _ _ _ (omega arith) c.four-w.ensures (ascii "exte") refl refl c.in-1702131813.is _ (110 ∷ 100 ∷ []) c.two-in-1702131813.ensures refl refl
     c.if-two-ne-ND.false)
-    c.if-s-at-ne10.false (omega arith))
+    c.if-s-at-ne10-2.false (omega arith))
     refl (omega arith) refl
 
 pub returns-else-r-at : goal.returns-else-r-at
@@ -61,7 +61,7 @@ unfolding same
 returns-else-r-at c moved =
     let more = c.rule-r.ensures c.if-r-at.false in
     says_tab _ _ _ (ascii "drain") refl call_of _ 56 47 _ _ _
-    (word_two _ _ _ (omega arith) c.four-w.ensures (ascii "drai") refl refl c.in-1767993956.is _ (110 ∷ 9 ∷ []) c.two.ensures refl refl
+    (word_two _ _ _ (omega arith) c.four-w.ensures (ascii "drai") refl refl c.in-1767993956.is _ (110 ∷ 9 ∷ []) c.two-in-1767993956.ensures refl refl
     c.if-two-ne-N_TAB.false)
     refl (omega arith) more (ap (map Call.Drain) more.got)
 
@@ -69,14 +69,14 @@ pub returns-else-s-at-ne10-3 : goal.returns-else-s-at-ne10-3
 unfolding same plain_call
 returns-else-s-at-ne10-3 c moved =
     says_end _ _ _ (ascii "drop") refl call_of Call.Drop 56
-    (word_byte _ _ _ (omega arith) c.four-w.ensures (ascii "drop") refl refl c.in-1886351972.is 10 c.if-s-at-ne10.false)
+    (word_byte _ _ _ (omega arith) c.four-w.ensures (ascii "drop") refl refl c.in-1886351972.is 10 c.if-s-at-ne10-3.false)
     refl (omega arith) refl
 
 pub returns-else-two-ne-Y_END : goal.returns-else-two-ne-Y_END
 unfolding same plain_call
 returns-else-two-ne-Y_END c moved =
     says_end _ _ _ (ascii "empty") refl call_of Call.Empty 56
-    (word_two _ _ _ (omega arith) c.four-w.ensures (ascii "empt") refl refl c.in-1953525093.is _ (121 ∷ 10 ∷ []) c.two.ensures refl refl
+    (word_two _ _ _ (omega arith) c.four-w.ensures (ascii "empt") refl refl c.in-1953525093.is _ (121 ∷ 10 ∷ []) c.two-in-1953525093.ensures refl refl
     c.if-two-ne-Y_END.false)
     refl (omega arith) refl
 
@@ -84,6 +84,6 @@ pub returns-else-two-ne-E_END : goal.returns-else-two-ne-E_END
 unfolding same plain_call
 returns-else-two-ne-E_END c moved =
     says_end _ _ _ (ascii "spare") refl call_of Call.Spare 56
-    (word_two _ _ _ (omega arith) c.four-w.ensures (ascii "spar") refl refl c.in-1918988403.is _ (101 ∷ 10 ∷ []) c.two.ensures refl refl
+    (word_two _ _ _ (omega arith) c.four-w.ensures (ascii "spar") refl refl c.in-1918988403.is _ (101 ∷ 10 ∷ []) c.two-in-1918988403.ensures refl refl
     c.if-two-ne-E_END.false)
     refl (omega arith) refl
