@@ -9,7 +9,6 @@ use native.Mathlib.Omega.{arith}
 use lib.ListN.{length}
 use Rattle.words.specs.Word.{pick}
 use Rattle.tables.specs.declared.answer.Effect.{Effect}
-use Rattle.tables.specs.declared.call.Act.{Act}
 use Rattle.tables.specs.declared.state.Kind.{Kind}
 use Rattle.tables.specs.declared.state.Machine.{Machine}
 use Rattle.tables.specs.Answer.{is_pending}
@@ -19,7 +18,7 @@ use Rattle.tables.specs.Shows.{shows}
 use Rattle.tables.specs.Step.{Outcome, begin, step, alone, appended, noted, three_effects, Result, of_outcome, acted}
 use Rattle.tables.proofs.Effects.{alone_few}
 use Rattle.tables.proofs.Refused.{begin_if}
-use Rattle.agreement.specs.Statement.{Line, begins, steps, alones, Run, kinds_of, did_entry, said_entry, recorded, line, run_of, put_on, Fresh, Keeps, Agrees}
+use Rattle.agreement.specs.Statement.{Line, begins, steps, alones, Run, kinds_of, did_entry, said_entry, recorded, line, run_of, put_on, Fresh, Keeps}
 use Rattle.agreement.specs.Outcomes.{party_of, act_of, InARow, machine_after, items_after, effects_in, reply_on, replies_on}
 use Rattle.agreement.proofs.Merged.{on_top, alone_record, alone_agrees}
 use Rattle.agreement.proofs.Demand3.{agrees}

@@ -7,18 +7,14 @@ use Prim.Native.Nat.{ℕ, ◌<◌}
 use native.Mathlib.Omega.{arith}
 use lib.ListN.{length-set}
 use Rattle.tables.specs.declared.call.Call.{Call}
-use Rattle.tables.specs.declared.call.Call.TheVariants as Call
 use Rattle.tables.specs.declared.call.Rule.{Rule}
 use Rattle.tables.specs.declared.state.Kind.{Kind}
-use Rattle.tables.specs.declared.state.Kind.TheVariants as Kind
 use Rattle.tables.specs.declared.state.Party.{Party}
 use Rattle.tables.specs.declared.place.BookingCall.TheVariants as BookingCall
 use Rattle.tables.specs.declared.place.FifoPlace.{FifoPlace}
 use Rattle.tables.specs.declared.place.LifoPlace.{LifoPlace}
 use Rattle.tables.specs.declared.place.OwnPlace.{OwnPlace}
-use Rattle.tables.specs.declared.place.OwnPlace.TheVariants as OwnPlace
 use Rattle.tables.specs.declared.place.Place.{Place}
-use Rattle.tables.specs.declared.place.Place.TheVariants as Place
 use Rattle.tables.specs.Machine.{idle_party, party_at}
 use Rattle.tables.specs.Tables.{lifo_source, fifo_source, source_of, start, call_source}
 use Rattle.tables.specs.Table.{booking, limit_of}

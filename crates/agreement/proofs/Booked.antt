@@ -14,18 +14,14 @@ use borrow.Author.Tests.{eqb-true, eqb-false, eq-eqb, ne_eqb, lt-ltb, le-leb}
 use Rattle.words.specs.Word.{pick, orb, plus, least_of}
 use Rattle.tables.specs.declared.access.Seen.{Seen}
 use Rattle.tables.specs.declared.answer.Answer.{Answer}
-use Rattle.tables.specs.declared.answer.Answer.TheVariants as Answer
 use Rattle.tables.specs.declared.answer.Change.TheVariants as Change
 use Rattle.tables.specs.declared.call.Mark.{Mark}
 use Rattle.tables.specs.declared.state.Drain.{Drain}
 use Rattle.tables.specs.declared.state.Kind.{Kind}
 use Rattle.tables.specs.declared.place.BookPlace.{BookPlace}
 use Rattle.tables.specs.declared.place.BookingCall.{BookingCall}
-use Rattle.tables.specs.declared.place.BookingCall.TheVariants as BookingCall
 use Rattle.tables.specs.declared.place.Place.{Place}
-use Rattle.tables.specs.declared.place.Place.TheVariants as Place
 use Rattle.tables.specs.declared.place.Transfer.{Transfer}
-use Rattle.tables.specs.declared.place.Transfer.TheVariants as Transfer
 use Rattle.tables.specs.Rule.{ruled}
 use Rattle.tables.specs.Access.{Accessed, shows}
 use Rattle.tables.specs.Table.{rule_of, room_for, limit_of, counted, booked}

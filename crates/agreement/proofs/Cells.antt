@@ -8,13 +8,11 @@ use Rattle.words.specs.Word.{pick}
 use Rattle.tables.specs.declared.access.Next.{Next}
 use Rattle.tables.specs.declared.answer.Answer.{Answer}
 use Rattle.tables.specs.declared.answer.Change.{Change}
-use Rattle.tables.specs.declared.answer.Change.TheVariants as Change
 use Rattle.tables.specs.declared.call.Mark.{Mark}
 use Rattle.tables.specs.declared.state.Drain.{Drain}
 use Rattle.tables.specs.declared.state.Kind.{Kind}
 use Rattle.tables.specs.declared.state.Queue.{Queue}
 use Rattle.tables.specs.declared.place.Place.{Place}
-use Rattle.tables.specs.declared.place.Place.TheVariants as Place
 use Rattle.tables.specs.Access.{Accessed}
 use Rattle.tables.specs.Tables.{source_of}
 use Rattle.tables.specs.Answer.{Reason, answer_row, handed_out}

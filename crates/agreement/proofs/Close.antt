@@ -17,16 +17,12 @@ use Rattle.tables.specs.declared.answer.Change.TheVariants as Change
 use Rattle.tables.specs.declared.call.Mark.{Mark}
 use Rattle.tables.specs.declared.state.Drain.{Drain}
 use Rattle.tables.specs.declared.state.Kind.{Kind}
-use Rattle.tables.specs.declared.state.Kind.TheVariants as Kind
 use Rattle.tables.specs.declared.place.BookedTokens.{BookedTokens}
 use Rattle.tables.specs.declared.place.ClosePlace.{ClosePlace}
-use Rattle.tables.specs.declared.place.ClosePlace.TheVariants as ClosePlace
 use Rattle.tables.specs.declared.place.ClosingCall.{ClosingCall}
-use Rattle.tables.specs.declared.place.ClosingCall.TheVariants as ClosingCall
 use Rattle.tables.specs.declared.place.MovePlace.TheVariants as MovePlace
 use Rattle.tables.specs.declared.place.Place.TheVariants as Place
 use Rattle.tables.specs.declared.place.Transfer.{Transfer}
-use Rattle.tables.specs.declared.place.Transfer.TheVariants as Transfer
 use Rattle.tables.specs.Access.{Accessed, shows, saw_packed, with_packed, with_pushes, saw_token}
 use Rattle.tables.specs.Table.{closing, answer_of, last_read, landing, move_row}
 use Rattle.tables.specs.Tables.{closing_source, close_row}
@@ -36,7 +32,7 @@ use Rattle.tables.specs.Lists.{party, Lists, leave, arrive, shut, can, in_front}
 use Rattle.tables.specs.Shows.{by_drain}
 use Rattle.agreement.proofs.Wrap.{small, plus_is, plus_exact, diff, pair, pair_of, high_is}
 use Rattle.agreement.proofs.Ring.{cell, get_d_tokens}
-use Rattle.agreement.proofs.Nums.{call, drain, holder_of, Nums, head, more, moves, closes, joins_more, joins_move, joins_close, book_none}
+use Rattle.agreement.proofs.Nums.{call, holder_of, Nums, head, more, moves, closes, joins_more, joins_move, joins_close, book_none}
 use Rattle.agreement.proofs.Whole.{Whole, words_of, words_more, part_more, part_move, RO, RB, RH, slot_of}
 use Rattle.agreement.proofs.Facts.{kept, Carries, LastIs, OwnM, Keeps, closing_who, BkC}
 use Rattle.agreement.proofs.Steps.{Why, SrcNext}

@@ -9,10 +9,8 @@ use Rattle.words.specs.Word.{orb}
 use Rattle.tables.specs.declared.access.Next.{Next}
 use Rattle.tables.specs.declared.call.Mark.{Mark}
 use Rattle.tables.specs.declared.state.Kind.{Kind}
-use Rattle.tables.specs.declared.state.Kind.TheVariants as Kind
 use Rattle.tables.specs.declared.state.Queue.{Queue}
 use Rattle.tables.specs.declared.place.BookPlace.{BookPlace}
-use Rattle.tables.specs.declared.place.BookPlace.TheVariants as BookPlace
 use Rattle.tables.specs.declared.place.Place.{Place}
 use Rattle.tables.specs.Tables.{source_of}
 use Rattle.tables.specs.Table.{limit_of}

@@ -7,7 +7,6 @@ use mathlib.Core.List.{List, [], ◌∷◌}
 use native.Mathlib.Omega.{arith}
 use lib.ListN.{length}
 use Rattle.tables.specs.declared.call.Mark.{Mark}
-use Rattle.tables.specs.declared.call.Mark.TheVariants as Mark
 use Rattle.tables.specs.Answer.{is_pending}
 use Rattle.tables.specs.Effect.{is_none}
 use Rattle.tables.specs.Lists.{Plain, Entry, lists, replay}

@@ -17,9 +17,7 @@ use Rattle.tables.specs.declared.state.Queue.{Queue}
 use Rattle.tables.specs.declared.place.BookedTokens.{BookedTokens}
 use Rattle.tables.specs.declared.place.MovePlace.TheVariants as MovePlace
 use Rattle.tables.specs.declared.place.Place.{Place}
-use Rattle.tables.specs.declared.place.Place.TheVariants as Place
 use Rattle.tables.specs.declared.place.Transfer.{Transfer}
-use Rattle.tables.specs.declared.place.Transfer.TheVariants as Transfer
 use Rattle.tables.specs.Access.{Accessed, with_pushes}
 use Rattle.tables.specs.Table.{closing, answer_of, landing, landed, ending}
 use Rattle.tables.specs.Tables.{source_of, closing_source}

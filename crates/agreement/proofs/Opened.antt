@@ -12,7 +12,6 @@ use Rattle.words.specs.Word.{pick, packed, pow_below, capacity_of}
 use Rattle.words.proofs.Powers.{power_test, power_positive, power_most}
 use Rattle.words.proofs.Doubling.{capacity_power}
 use Rattle.tables.specs.declared.state.Kind.{Kind}
-use Rattle.tables.specs.declared.state.Kind.TheVariants as Kind
 use Rattle.tables.specs.declared.state.Machine.{Machine}
 use Rattle.tables.specs.declared.state.Queue.{Queue}
 use Rattle.tables.specs.declared.place.Place.TheVariants as Place

@@ -15,7 +15,6 @@ use Rattle.tables.specs.declared.answer.Change.TheVariants as Change
 use Rattle.tables.specs.declared.call.Mark.{Mark}
 use Rattle.tables.specs.declared.state.Drain.{Drain}
 use Rattle.tables.specs.declared.state.Kind.{Kind}
-use Rattle.tables.specs.declared.state.Kind.TheVariants as Kind
 use Rattle.tables.specs.declared.place.ClosingCall.TheVariants as ClosingCall
 use Rattle.tables.specs.declared.place.OwnPlace.TheVariants as OwnPlace
 use Rattle.tables.specs.declared.place.Place.TheVariants as Place

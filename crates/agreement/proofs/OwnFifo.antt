@@ -16,9 +16,7 @@ use Rattle.tables.specs.declared.answer.Change.TheVariants as Change
 use Rattle.tables.specs.declared.call.Mark.{Mark}
 use Rattle.tables.specs.declared.state.Drain.{Drain}
 use Rattle.tables.specs.declared.state.Kind.{Kind}
-use Rattle.tables.specs.declared.state.Kind.TheVariants as Kind
 use Rattle.tables.specs.declared.place.FifoPlace.{FifoPlace}
-use Rattle.tables.specs.declared.place.FifoPlace.TheVariants as FifoPlace
 use Rattle.tables.specs.declared.place.OwnPlace.TheVariants as OwnPlace
 use Rattle.tables.specs.declared.place.Place.TheVariants as Place
 use lib.Pow.{pow_pos}

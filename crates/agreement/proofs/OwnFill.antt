@@ -14,19 +14,14 @@ use Rattle.words.specs.Word.{pick, plus, minus}
 use Rattle.tables.specs.declared.access.Context.{Context}
 use Rattle.tables.specs.declared.access.Seen.{Seen}
 use Rattle.tables.specs.declared.answer.Answer.{Answer}
-use Rattle.tables.specs.declared.answer.Answer.TheVariants as Answer
 use Rattle.tables.specs.declared.answer.Change.TheVariants as Change
 use Rattle.tables.specs.declared.call.Mark.{Mark}
 use Rattle.tables.specs.declared.state.Drain.{Drain}
 use Rattle.tables.specs.declared.state.Kind.{Kind}
-use Rattle.tables.specs.declared.state.Kind.TheVariants as Kind
 use Rattle.tables.specs.declared.place.BookingCall.TheVariants as BookingCall
 use Rattle.tables.specs.declared.place.OwnPlace.{OwnPlace}
-use Rattle.tables.specs.declared.place.OwnPlace.TheVariants as OwnPlace
 use Rattle.tables.specs.declared.place.OwnerCall.{OwnerCall}
-use Rattle.tables.specs.declared.place.OwnerCall.TheVariants as OwnerCall
 use Rattle.tables.specs.declared.place.Place.{Place}
-use Rattle.tables.specs.declared.place.Place.TheVariants as Place
 use Rattle.tables.specs.declared.place.TransferCall.{TransferCall}
 use Rattle.tables.specs.Access.{shows, with_pushes, nothing_seen}
 use Rattle.tables.specs.Table.{filled, brought, booking, limit_of}
@@ -36,7 +31,7 @@ use Rattle.tables.specs.Lists.{Lists, offer, accept, can, in_front}
 use Rattle.tables.specs.Shows.{waits, own_waits, by_place}
 use Rattle.agreement.proofs.Wrap.{small, plus_is, diff}
 use Rattle.agreement.proofs.Ring.{tokens, tokens_zero, tokens_write}
-use Rattle.agreement.proofs.Nums.{noone, drain, Nums, head, tail, Joins, more, joins_write, joins_offer, joins_accept}
+use Rattle.agreement.proofs.Nums.{noone, Nums, head, tail, Joins, more, joins_write, joins_offer, joins_accept}
 use Rattle.agreement.proofs.Whole.{Whole, words_of, words_more, part_more, rb_refl, rh_refl, cap_small, slot_of}
 use Rattle.agreement.proofs.Facts.{Ext, OwnP, hand_in, OwnF, BkB, BkF, held}
 use Rattle.agreement.proofs.Steps.{hand_over, Why, BookStill, Still, OwnNext}

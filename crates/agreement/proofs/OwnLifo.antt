@@ -16,13 +16,9 @@ use Rattle.tables.specs.declared.answer.Change.TheVariants as Change
 use Rattle.tables.specs.declared.call.Mark.{Mark}
 use Rattle.tables.specs.declared.state.Drain.{Drain}
 use Rattle.tables.specs.declared.state.Kind.{Kind}
-use Rattle.tables.specs.declared.state.Kind.TheVariants as Kind
 use Rattle.tables.specs.declared.place.LifoPlace.{LifoPlace}
-use Rattle.tables.specs.declared.place.LifoPlace.TheVariants as LifoPlace
 use Rattle.tables.specs.declared.place.Place.{Place}
-use Rattle.tables.specs.declared.place.Place.TheVariants as Place
 use Rattle.tables.specs.declared.place.RoomCall.{RoomCall}
-use Rattle.tables.specs.declared.place.RoomCall.TheVariants as RoomCall
 use Rattle.tables.specs.Access.{Accessed, shows, saw_packed, with_packed, swaps, perform}
 use Rattle.tables.specs.Row.{Row}
 use Rattle.tables.specs.LifoTable.{lifo_row, lifo_loaded, tail_of}

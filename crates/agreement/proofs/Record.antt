@@ -8,14 +8,12 @@ use lib.ListN.{length, length-set}
 use Rattle.tables.specs.declared.access.Context.{Context}
 use Rattle.tables.specs.declared.access.Next.{Next}
 use Rattle.tables.specs.declared.access.Whose.{Whose}
-use Rattle.tables.specs.declared.access.Whose.TheVariants as Whose
 use Rattle.tables.specs.declared.call.Mark.{Mark}
 use Rattle.tables.specs.declared.state.Kind.TheVariants as Kind
 use Rattle.tables.specs.declared.state.Machine.{Machine}
 use Rattle.tables.specs.declared.state.Party.{Party}
 use Rattle.tables.specs.declared.state.Queue.{Queue}
 use Rattle.tables.specs.declared.place.Place.{Place}
-use Rattle.tables.specs.declared.place.Place.TheVariants as Place
 use Rattle.tables.specs.Machine.{idle_party, zero_queue, party_at, queue_at, base_of, stretch, restretched}
 use Rattle.tables.specs.Access.{Accessed, perform}
 use Rattle.tables.specs.Row.{Row}

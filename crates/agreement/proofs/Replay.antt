@@ -6,9 +6,7 @@ use Prim.Native.Nat.{ℕ, ◌+◌}
 use native.Mathlib.Omega.{arith}
 use Rattle.words.specs.Word.{pick}
 use Rattle.tables.specs.declared.answer.Answer.{Answer}
-use Rattle.tables.specs.declared.answer.Answer.TheVariants as Answer
 use Rattle.tables.specs.declared.answer.Change.{Change}
-use Rattle.tables.specs.declared.answer.Change.TheVariants as Change
 use Rattle.tables.specs.declared.answer.Effect.{Effect}
 use Rattle.tables.specs.declared.state.Kind.{Kind}
 use Rattle.tables.specs.Effect.{no_effect, effect_of, moves_of}

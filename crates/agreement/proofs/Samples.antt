@@ -8,7 +8,6 @@ use native.Mathlib.Omega.{arith}
 use lib.Dec.{eqb}
 use Rattle.words.specs.Word.{pick}
 use Rattle.tables.specs.declared.answer.Answer.{Answer}
-use Rattle.tables.specs.declared.answer.Answer.TheVariants as Answer
 use Rattle.tables.specs.declared.call.Call.TheVariants as Call
 use Rattle.tables.specs.declared.call.Rule.TheVariants as Rule
 use Rattle.tables.specs.declared.state.Kind.TheVariants as Kind

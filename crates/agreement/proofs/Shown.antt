@@ -11,14 +11,11 @@ use borrow.Author.Tests.{eqb-true, eqb-false, not-true}
 use Rattle.words.specs.Word.{pick, orb, minus, high, low}
 use Rattle.tables.specs.declared.state.Drain.{Drain}
 use Rattle.tables.specs.declared.state.Kind.{Kind}
-use Rattle.tables.specs.declared.state.Kind.TheVariants as Kind
 use Rattle.tables.specs.declared.state.Machine.{Machine}
 use Rattle.tables.specs.declared.place.BookedTokens.{BookedTokens}
 use Rattle.tables.specs.declared.place.ClosePlace.{ClosePlace}
-use Rattle.tables.specs.declared.place.ClosePlace.TheVariants as ClosePlace
 use Rattle.tables.specs.declared.place.MovePlace.TheVariants as MovePlace
 use Rattle.tables.specs.declared.place.Place.{Place}
-use Rattle.tables.specs.declared.place.Place.TheVariants as Place
 use Rattle.tables.specs.Tables.{source_of, closing_source}
 use Rattle.tables.specs.Lists as L
 use Rattle.tables.specs.Lists.{Holder, nobody, party, Lists, head_of, tail_of}

@@ -10,7 +10,6 @@ use Rattle.tables.specs.declared.access.Next.{Next}
 use Rattle.tables.specs.declared.call.Mark.{Mark}
 use Rattle.tables.specs.declared.state.Drain.{Drain}
 use Rattle.tables.specs.declared.place.Place.{Place}
-use Rattle.tables.specs.declared.place.Place.TheVariants as Place
 use Rattle.tables.specs.Access.{Accessed}
 use Rattle.tables.specs.Tables.{source_of}
 use Rattle.tables.specs.Answer.{answer_row, handed_out}

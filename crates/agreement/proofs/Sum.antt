@@ -11,9 +11,7 @@ use lib.ListN.{length, take, drop, get_or}
 use Rattle.words.specs.Word.{pick}
 use Rattle.tables.specs.declared.answer.Answer.{Answer}
 use Rattle.tables.specs.declared.answer.Change.{Change}
-use Rattle.tables.specs.declared.answer.Change.TheVariants as Change
 use Rattle.tables.specs.declared.answer.Values.{Values}
-use Rattle.tables.specs.declared.answer.Values.TheVariants as Values
 use Rattle.tables.specs.declared.state.Kind.{Kind}
 use Rattle.tables.specs.Step.{andb}
 use Rattle.tables.specs.Answer.{answer_row, tokens_of, handed_out}

@@ -8,7 +8,6 @@ use native.Mathlib.Numerals.{add-one}
 use lib.ListN.{length, take, drop, get_or, take-append-drop}
 use lib.Seq.{take-suc, take-length}
 use Rattle.tables.specs.declared.state.Kind.{Kind}
-use Rattle.tables.specs.declared.state.Kind.TheVariants as Kind
 use Rattle.tables.specs.Lists.{Lists, Plain, update, offer, accept, pop_from, pop, book, leave, arrive, shut, on_queue, in_hand, drops_out}
 use Rattle.tables.proofs.Bools.{equal_or_not}
 use Rattle.tables.proofs.Updates.{update_same, update_other}

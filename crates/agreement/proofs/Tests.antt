@@ -9,7 +9,6 @@ use lib.Pow.{pow_pos}
 use borrow.Author.Tests.{ltb-true, eq-eqb}
 use Rattle.words.specs.Word.{pick, doubled, pow_below}
 use Rattle.tables.specs.declared.call.Mark.{Mark}
-use Rattle.tables.specs.declared.call.Mark.TheVariants as Mark
 use Rattle.tables.specs.declared.state.Kind.{Kind}
 use Rattle.tables.specs.declared.place.Place.{Place}
 use Rattle.tables.specs.Machine.{base_of}

@@ -8,7 +8,6 @@ use native.Mathlib.Omega.{arith}
 use Rattle.words.specs.Word.{pow_below}
 use Rattle.words.proofs.Powers.{power_divides}
 use Rattle.tables.specs.declared.state.Kind.{Kind}
-use Rattle.tables.specs.declared.state.Kind.TheVariants as Kind
 use Rattle.tables.specs.declared.state.Queue.{Queue}
 use Rattle.tables.specs.Access.{with_pushes}
 use Rattle.tables.specs.Lists.{Lists}

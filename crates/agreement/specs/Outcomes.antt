@@ -5,7 +5,6 @@ use Rattle.tables.specs.declared.answer.Effect.{Effect}
 use Rattle.tables.specs.declared.answer.Effects.{Effects}
 use Rattle.tables.specs.declared.answer.Reply.{Reply}
 use Rattle.tables.specs.declared.call.Act.{Act}
-use Rattle.tables.specs.declared.call.Act.TheVariants as Act
 use Rattle.tables.specs.declared.state.Machine.{Machine}
 use Rattle.tables.specs.Lists.{Entry}
 use Rattle.tables.specs.Step.{Result, acted}

@@ -2,7 +2,7 @@
 use Prim.Native.Nat.{ℕ, ◌%◌, ◌<◌}
 use mathlib.Core.Path.{◌≡◌, refl, sym, ap, ap₂, subst, ◌∙◌}
 use mathlib.Core.Bool.{Bool, true, false}
-use mathlib.Core.List.{List, []}
+use mathlib.Core.List.{List}
 use native.Mathlib.Nat.{mod-eq_of_lt}
 use native.Mathlib.Omega.{arith}
 use borrow.Author.Tests.{ltb-true}
@@ -12,15 +12,14 @@ use Rattle.words.specs.Word.{pick}
 use Rattle.words.proofs.Powers.{power_of}
 use Rattle.tables.specs.declared.answer.Answer.TheVariants as Answer
 use Rattle.tables.specs.declared.call.Act.{Act}
-use Rattle.tables.specs.declared.call.Act.TheVariants as Act
 use Rattle.tables.specs.declared.call.Call.{Call}
 use Rattle.tables.specs.declared.call.Mark.{Mark}
 use Rattle.tables.specs.declared.state.Machine.{Machine}
 use Rattle.tables.specs.Machine.{party_at, queue_at}
 use Rattle.tables.specs.Tables.{is_idle, source_of}
 use Rattle.tables.specs.Effect.{no_effect}
-use Rattle.tables.specs.Step.{Outcome, sound, place_at, row_at, begun, refused, begin_order, step_order, alone_order, begin_refusal, step_refusal}
-use Rattle.tables.specs.Step.{alone_refusal, begin, step, alone, taken, runs, still, three_effects, of_outcome, of_alone, acted}
+use Rattle.tables.specs.Step.{Outcome, sound, place_at, row_at, begun, refused, begin_order, step_order, begin_refusal, step_refusal}
+use Rattle.tables.specs.Step.{alone_refusal, begin, step, alone, taken, runs, still, of_outcome, of_alone, acted}
 use Rattle.tables.proofs.Bases.{base_within}
 use Rattle.tables.proofs.Sound.{Sound, sound_facts}
 use Rattle.machine.specs.declared.desk.Desk.{Desk}

@@ -1,8 +1,8 @@
 -- The opening's loops: requests above the largest capacity, and the queues opened one by one.
 use Prim.Native.Nat.{ℕ, zero, suc, ◌+◌, ◌-◌, ◌*◌, ◌^◌, ◌≤◌, ◌<◌}
-use mathlib.Core.Path.{◌≡◌, refl, sym, ap, ap₂, subst, ◌∙◌}
+use mathlib.Core.Path.{◌≡◌, refl, sym, ap, ap₂, ◌∙◌}
 use mathlib.Core.Bool.{Bool, true, false}
-use mathlib.Core.List.{List, [], ◌∷◌}
+use mathlib.Core.List.{List}
 use native.Mathlib.Numerals.{add-one}
 use native.Mathlib.Omega.{arith}
 use borrow.Author.Tests.{lt-ltb, le-leb, lt-leb, eq-eqb, ne_eqb}
@@ -12,12 +12,11 @@ use lib.Seq.{get_or-set_same, get_or-set_other}
 use Rattle.words.specs.Edition.{width}
 use Rattle.words.specs.Word.{orb, pick}
 use Rattle.tables.specs.declared.state.Kind.{Kind}
-use Rattle.tables.specs.declared.state.Kind.TheVariants as Kind
 use Rattle.tables.specs.declared.state.Machine.{Machine}
 use Rattle.tables.specs.declared.state.Queue.{Queue}
 use Rattle.tables.specs.declared.state.Opened.{Opened}
 use Rattle.tables.specs.Machine.{most, zero_queue, base_of}
-use Rattle.tables.specs.Step.{over_to, open_to, open_queue, closed_queues, idle_parties, tables, open_queues, andb, every_kind, open_refusal, opening}
+use Rattle.tables.specs.Step.{over_to, open_to, open_queue, closed_queues, tables, open_queues, andb, every_kind, open_refusal, opening}
 use Rattle.tables.proofs.Bases.{base_more}
 use Rattle.tables.proofs.Bools.{pick_yes, pick_no}
 use Rattle.tables.proofs.Opening.{open_length, closed_length}

@@ -1,9 +1,8 @@
 -- The tokens of a stretch, one by one: each stands in the slot of its position, where the items reach so far.
-use Prim.Native.Nat.{ℕ, ◌+◌, ◌%◌, ◌^◌, ◌<◌, ◌≤◌}
+use Prim.Native.Nat.{ℕ, ◌+◌, ◌<◌, ◌≤◌}
 use mathlib.Core.Path.{◌≡◌, sym, ap, ◌∙◌}
 use mathlib.Core.Bool.{true, false}
 use mathlib.Core.List.{List}
-use native.Mathlib.Omega.{arith}
 use native.Mathlib.Nat.{mod-lt, mod-mod_of_dvd}
 use lib.ListN.{length, get_or, drop, get_or-eq_default}
 use lib.Seq.{get_or-take, get_or-drop}

@@ -19,11 +19,8 @@ use Rattle.words.proofs.Powers.{power_of, pow_positive}
 use Rattle.tables.specs.declared.access.Next.{Next}
 use Rattle.tables.specs.declared.access.Seen.{Seen}
 use Rattle.tables.specs.declared.access.Whose.{Whose}
-use Rattle.tables.specs.declared.access.Whose.TheVariants as Whose
 use Rattle.tables.specs.declared.answer.Answer.{Answer}
-use Rattle.tables.specs.declared.answer.Answer.TheVariants as Answer
 use Rattle.tables.specs.declared.call.Act.{Act}
-use Rattle.tables.specs.declared.call.Act.TheVariants as Act
 use Rattle.tables.specs.declared.call.Call.{Call}
 use Rattle.tables.specs.declared.call.Mark.{Mark}
 use Rattle.tables.specs.declared.state.Machine.{Machine}

@@ -11,9 +11,8 @@ use lib.Dec.{ltb, leb, eqb}
 use Rattle.words.specs.Word.{pick, pow_below}
 use Rattle.tables.specs.declared.state.Kind.{Kind}
 use Rattle.tables.specs.declared.state.Machine.{Machine}
-use Rattle.tables.specs.declared.state.Party.{Party}
 use Rattle.tables.specs.declared.state.Queue.{Queue}
-use Rattle.tables.specs.Machine.{party_at, queue_at, base_of}
+use Rattle.tables.specs.Machine.{queue_at, base_of}
 use Rattle.tables.specs.Tables.{source_of, has_place}
 use Rattle.tables.specs.Step.{andb, kind_at, place_at, sound_at, sound_to, sound}
 use Rattle.tables.proofs.Bases.{base_more}

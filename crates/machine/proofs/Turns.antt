@@ -21,7 +21,7 @@ use Rattle.machine.specs.declared.desk.Desk.{Desk}
 use Rattle.machine.specs.declared.desk.Stretches.{Stretches}
 use Rattle.machine.specs.declared.desk.Reached.{Reached}
 use Rattle.machine.specs.declared.desk.Stepped.{Stepped}
-use Rattle.machine.specs.Desk.{With, with, desk_context, same, away, queue_for, base_for, reach, went, desk_step, Ready}
+use Rattle.machine.specs.Desk.{with, desk_context, same, away, queue_for, base_for, reach, went, desk_step, Ready}
 
 pub reach_is : (w : ℕ) (l : Stretches) (d : Desk) (k : Mark) {s : Context} {want : Wanted} {a : Bool} {q : Queue} {base : ℕ}
     → s ≡ desk_context d k → want ≡ wanted (row_of w s d.party.place) → a ≡ away want.whose (same l) → q ≡ queue_for a d → base ≡ base_for a l

@@ -1,6 +1,6 @@
 -- The effects of a run alone in an array of three: one more noted. proofs/ shows that it is the list's `noted`, where that has three
 -- at most.
-use Rattle.std.specs.Prelude.{ℕ, ◌+◌, ◌-◌, ◌<◌, ◌^◌, Bool, ltb, eqb, get_or, set}
+use Rattle.std.specs.Prelude.{ℕ, ◌+◌, ◌-◌, ◌<◌, ◌^◌, ltb, eqb, get_or, set}
 use Rattle.words.specs.Word.{pick}
 use Rattle.tables.specs.declared.answer.Effect.{Effect}
 use Rattle.tables.specs.declared.answer.Effects.{Effects}

@@ -95,11 +95,11 @@ fn fill(
     positions: [u32; MOST],
     n: usize,
 ) -> Filled
-    requires n_le_most { n ≤ most }
-    requires n_value { St.over_to width requests n ≡ false }
-    requires machine_value { machine ≡ St.tables most 0 (St.closed_queues most (St.every_kind most kind)) }
-    ensures machine_value_2 { result.machine ≡ St.tables most n (St.open_queues width most (St.every_kind most kind) n requests positions) }
-    ensures total_value { result.total ≡ M.base_of n (St.open_queues width most (St.every_kind most kind) n requests positions) }
+    requires few { n ≤ most }
+    requires small { St.over_to width requests n ≡ false }
+    requires blank { machine ≡ St.tables most 0 (St.closed_queues most (St.every_kind most kind)) }
+    ensures machine_is { result.machine ≡ St.tables most n (St.open_queues width most (St.every_kind most kind) n requests positions) }
+    ensures total_is { result.total ≡ M.base_of n (St.open_queues width most (St.every_kind most kind) n requests positions) }
 {
     let mut out = machine;
     let mut total: u64 = 0;

@@ -54,7 +54,7 @@ pub fn look_up(parties: u32, who: u64, x: usize, y: usize, place: Place, context
 
 // A stretch starts where the capacities before it end. No act changes a capacity, so the starts hold for all the lines.
 pub fn starts_of(m: Machine, lent: usize) -> Starts
-    ensures sound_value { result.sound ≡ St.sound width most m lent }
+    ensures sound_is { result.sound ≡ St.sound width most m lent }
     ensures fit { result.sound ≡ true → L.Fit m result.at lent }
 {
     let parties = m.parties;

@@ -69,8 +69,8 @@ fn both(a: bool, b: bool) -> bool
 
 pub fn surveyed(s: Survey, i: u64, good: bool, queue: Queue, who: u64, from: u64) -> Survey
     requires { s.total < 2 ^ 63 }
-    ensures value { result ≡ D.surveyed who from i s good queue }
-    ensures total_bound { result.total < s.total + 2 ^ width }
+    ensures survey_is { result ≡ D.surveyed who from i s good queue }
+    ensures total_grows { result.total < s.total + 2 ^ width }
 {
     Survey {
         sound: both(s.sound, good),

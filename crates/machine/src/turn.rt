@@ -153,7 +153,7 @@ fn went(l: Stretches, desk: Desk, r: Reached, done: Performed) -> Stepped
 // One step that nothing refuses: only the reached queue's own stretch is lent on.
 fn taken(l: Stretches, desk: Desk, r: Reached, items: &mut [u64], mark: Mark) -> Stepped
     requires ready { D.Ready l desk (length items.old) }
-    requires r_value { r ≡ D.reach width l desk mark }
+    requires reached { r ≡ D.reach width l desk mark }
     ensures { D.with result items.new ≡ D.desk_step width l desk items.old mark }
 {
     let q = r.queue;
@@ -196,7 +196,7 @@ fn stops(answer: Answer, place: Place) -> bool
 fn onward(l: Stretches, t: Turn, items: &mut [u64]) -> Turn
     requires ready { D.Ready l t.desk (length items.old) }
     requires roomy { D.Roomy t.reply.effects }
-    requires steps_bound { t.reply.steps + 1 < 2 ^ 64 }
+    requires few_steps { t.reply.steps + 1 < 2 ^ 64 }
     ensures { D.with result items.new ≡ D.turn_on t (D.desk_step width l t.desk items.old Mark.Plain) }
 {
     let desk = t.desk;

@@ -16,7 +16,7 @@ pub struct Performed {
 
 fn read_at(items: &[u64], at: Position, capacity: u32) -> u64
     requires pow { Pow capacity }
-    requires len { length items.now ≡ capacity }
+    requires length_is { length items.now ≡ capacity }
     ensures { result ≡ get_or items.now (slot_of capacity at.0) 0 }
 {
     let slot = words::slot_of(at, capacity);
@@ -26,7 +26,7 @@ fn read_at(items: &[u64], at: Position, capacity: u32) -> u64
 
 fn write_at(items: &mut [u64], at: Position, capacity: u32, token: u64)
     requires pow { Pow capacity }
-    requires len { length items.old ≡ capacity }
+    requires length_is { length items.old ≡ capacity }
     ensures { items.new ≡ set items.old (slot_of capacity at.0) token }
 {
     let slot = words::slot_of(at, capacity);
@@ -72,7 +72,7 @@ fn compare_exchange(queue: Queue, old: u64, new: u64, weak: bool) -> Performed
 // One access to a queue, whose stretch of the lent items is `items`.
 pub fn perform(queue: Queue, items: &mut [u64], access: Access, weak: bool) -> Performed
     requires pow { Pow queue.capacity }
-    requires len { length items.old ≡ queue.capacity }
+    requires length_is { length items.old ≡ queue.capacity }
     ensures { X.shows result.queue items.new result.seen
         ≡ X.perform queue items.old access weak }
 {

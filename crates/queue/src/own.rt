@@ -111,8 +111,8 @@ pub fn brought(s: Context, transfer: TransferCall, word: u32, tail: u32, head: u
 
 // With nothing open the drain touches nothing.
 fn drain_wants(s: Context) -> Wanted
-    ensures value { result ≡ Y.wanted (T.own_row width s OwnPlace.NextItem) }
-    ensures value_2 { result ≡ Y.wanted (T.own_row width s OwnPlace.DropItem) }
+    ensures next_item { result ≡ Y.wanted (T.own_row width s OwnPlace.NextItem) }
+    ensures drop_item { result ≡ Y.wanted (T.own_row width s OwnPlace.DropItem) }
 {
     if s.drain.at == s.drain.end {
         row::own(Access::Touch)

@@ -3,54 +3,58 @@
 
 ghost use Rattle.std.specs.Prelude.{◌≤◌, length};
 
+use std::io::{Read, Write};
 use text::run;
 
-fn wrote(out: &[u8], put: usize) -> bool
+// How many bytes are read or written at a time.
+const PIECE: usize = 65536;
+
+// Whether the output could be written; where it could not, that is said.
+fn wrote(output: &mut impl Write, complaints: &mut impl Write, out: &[u8], put: usize) -> bool
     requires { put ≤ length out.now }
 {
-    let well = io::write_all(1, &out[0..put]);
+    let well = output.write_all(&out[0..put]).is_ok();
     if !well {
-        io::write_all(2, b"schedule: the output cannot be written\n");
+        let _ = complaints.write_all(b"schedule: the output cannot be written\n");
     }
     well
 }
 
-fn run(buf: &mut [u8], items: &mut [u64], out: &mut [u8])
+fn run(
+    input: &mut impl Read,
+    output: &mut impl Write,
+    complaints: &mut impl Write,
+    buf: &mut [u8],
+    items: &mut [u64],
+    out: &mut [u8],
+)
     requires { 128 ≤ length out.old }
 {
     let mut r = run::start(items);
-    let mut reads = u64::MAX;
-    while reads > 0 {
-        reads -= 1;
+    for _ in 0..u64::MAX {
         if run::is_over(r) {
-            reads = 0;
-            continue;
+            break;
         }
-        let got = libc::read(0, &mut *buf);
-        if got < 0 {
-            io::write_all(2, b"schedule: the input cannot be read\n");
+        let Ok(n) = input.read(&mut *buf) else {
+            let _ = complaints.write_all(b"schedule: the input cannot be read\n");
             return;
-        }
-        let n = io::count(got, buf);
+        };
         if n == 0 {
-            reads = 0;
-            continue;
+            break;
         }
         let mut used: usize = 0;
         while used < n {
             let fed = run::feed(r, &mut *items, &buf[used..n], &mut *out);
-            if !wrote(out, fed.put) {
+            if !wrote(output, complaints, out, fed.put) {
                 return;
             }
             r = fed.run;
             used += fed.used;
         }
     }
-    let mut turns = u64::MAX;
-    while turns > 0 {
-        turns -= 1;
+    for _ in 0..u64::MAX {
         let rested = run::rests(r, &mut *items, &mut *out);
-        if !wrote(out, rested.put) {
+        if !wrote(output, complaints, out, rested.put) {
             return;
         }
         if rested.done {
@@ -60,9 +64,19 @@ fn run(buf: &mut [u8], items: &mut [u64], out: &mut [u8])
     }
 }
 
-fn main() {
-    let mut buf = io::large_buffer();
-    let mut out = io::large_buffer();
+fn main(rt: HostRuntime) {
+    let mut buf = [0u8; PIECE];
+    let mut out = [0u8; PIECE];
     let mut items = [0u64; 4096]; // item slots, for all queues together
-    run(&mut buf, &mut items, &mut out);
+    let mut input = rt.stdin();
+    let mut output = rt.stdout();
+    let mut complaints = rt.stderr();
+    run(
+        &mut input,
+        &mut output,
+        &mut complaints,
+        &mut buf,
+        &mut items,
+        &mut out,
+    );
 }

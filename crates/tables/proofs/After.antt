@@ -14,7 +14,6 @@ use Rattle.tables.specs.declared.state.Machine.{Machine}
 use Rattle.tables.specs.declared.state.Party.{Party}
 use Rattle.tables.specs.declared.state.Queue.{Queue}
 use Rattle.tables.specs.declared.place.Place.{Place}
-use Rattle.tables.specs.declared.place.Place.TheVariants as Place
 use Rattle.tables.specs.Machine.{idle_party, party_at, zero_queue, queue_at, base_of, stretch}
 use Rattle.tables.specs.Tables.{row_of}
 use Rattle.tables.specs.Step.{place_at, context_of, row_at, access_at, next_at, taken, site_at, is_weak}

@@ -5,13 +5,10 @@ use mathlib.Core.List.{List, [], ◌∷◌, ◌++◌}
 use Rattle.tables.specs.declared.state.Opened.{Opened}
 use Rattle.words.specs.Word.{doubled, pow_below, packed}
 use Rattle.tables.specs.declared.answer.Answer.{Answer}
-use Rattle.tables.specs.declared.answer.Answer.TheVariants as Answer
 use Rattle.tables.specs.declared.answer.Change.{Change}
-use Rattle.tables.specs.declared.answer.Change.TheVariants as Change
 use Rattle.tables.specs.declared.call.Call.TheVariants as Call
 use Rattle.tables.specs.declared.call.Rule.TheVariants as Rule
 use Rattle.tables.specs.declared.state.Kind.{Kind}
-use Rattle.tables.specs.declared.state.Kind.TheVariants as Kind
 use Rattle.tables.specs.Machine.{queue_at, base_of}
 use Rattle.tables.specs.Step.{opening, begin, step, alone, sound, sound_to, open_to, over_to, closed_queues}
 use Rattle.tables.specs.Step.{idle_parties, open_refusal, begin_refusal, step_refusal, alone_refusal, taken, until, appended, place_at}

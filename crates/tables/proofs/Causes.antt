@@ -8,7 +8,6 @@ use Rattle.tables.specs.declared.call.Mark.{Mark}
 use Rattle.tables.specs.declared.call.Rule.{Rule}
 use Rattle.tables.specs.declared.place.BookPlace.{BookPlace}
 use Rattle.tables.specs.declared.place.BookingCall.{BookingCall}
-use Rattle.tables.specs.declared.place.BookingCall.TheVariants as BookingCall
 use Rattle.tables.specs.declared.place.Destination.{Destination}
 use Rattle.tables.specs.declared.place.Place.TheVariants as Place
 use Rattle.tables.specs.declared.place.Transfer.TheVariants as Transfer

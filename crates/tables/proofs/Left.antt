@@ -5,19 +5,12 @@ use native.Mathlib.Omega.{arith}
 use Rattle.words.specs.Word.{pick}
 use Rattle.tables.specs.declared.answer.Change.{Change}
 use Rattle.tables.specs.declared.place.BookingCall.{BookingCall}
-use Rattle.tables.specs.declared.place.BookingCall.TheVariants as BookingCall
 use Rattle.tables.specs.declared.place.FifoPlace.{FifoPlace}
-use Rattle.tables.specs.declared.place.FifoPlace.TheVariants as FifoPlace
 use Rattle.tables.specs.declared.place.LifoPlace.{LifoPlace}
-use Rattle.tables.specs.declared.place.LifoPlace.TheVariants as LifoPlace
 use Rattle.tables.specs.declared.place.OwnPlace.{OwnPlace}
-use Rattle.tables.specs.declared.place.OwnPlace.TheVariants as OwnPlace
 use Rattle.tables.specs.declared.place.OwnerCall.{OwnerCall}
-use Rattle.tables.specs.declared.place.OwnerCall.TheVariants as OwnerCall
 use Rattle.tables.specs.declared.place.Place.{Place}
-use Rattle.tables.specs.declared.place.Place.TheVariants as Place
 use Rattle.tables.specs.declared.place.RoomCall.{RoomCall}
-use Rattle.tables.specs.declared.place.RoomCall.TheVariants as RoomCall
 use Rattle.tables.specs.Effect.{is_none}
 
 -- until the answer; tokens dropped one after the other count as one

@@ -6,26 +6,16 @@ use lib.Dec.{eqb}
 use Rattle.words.specs.Word.{pick}
 use Rattle.tables.specs.declared.access.Context.{Context}
 use Rattle.tables.specs.declared.access.Wish.{Wish}
-use Rattle.tables.specs.declared.access.Wish.TheVariants as Wish
 use Rattle.tables.specs.declared.call.Mark.{Mark}
-use Rattle.tables.specs.declared.call.Mark.TheVariants as Mark
 use Rattle.tables.specs.declared.call.Rule.{Rule}
-use Rattle.tables.specs.declared.call.Rule.TheVariants as Rule
 use Rattle.tables.specs.declared.place.BookPlace.{BookPlace}
-use Rattle.tables.specs.declared.place.BookPlace.TheVariants as BookPlace
 use Rattle.tables.specs.declared.place.BookingCall.{BookingCall}
 use Rattle.tables.specs.declared.place.ClosePlace.{ClosePlace}
-use Rattle.tables.specs.declared.place.ClosePlace.TheVariants as ClosePlace
 use Rattle.tables.specs.declared.place.FifoPlace.{FifoPlace}
-use Rattle.tables.specs.declared.place.FifoPlace.TheVariants as FifoPlace
 use Rattle.tables.specs.declared.place.LifoPlace.{LifoPlace}
-use Rattle.tables.specs.declared.place.LifoPlace.TheVariants as LifoPlace
 use Rattle.tables.specs.declared.place.MovePlace.{MovePlace}
-use Rattle.tables.specs.declared.place.MovePlace.TheVariants as MovePlace
 use Rattle.tables.specs.declared.place.OwnPlace.{OwnPlace}
-use Rattle.tables.specs.declared.place.OwnPlace.TheVariants as OwnPlace
 use Rattle.tables.specs.declared.place.Place.{Place}
-use Rattle.tables.specs.declared.place.Place.TheVariants as Place
 use Rattle.tables.specs.Access.{is_cas}
 use Rattle.tables.specs.Row.{Row}
 use Rattle.tables.specs.Table.{rule_of, extend_row, own_row, move_row}

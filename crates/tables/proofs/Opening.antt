@@ -13,7 +13,6 @@ use lib.Seq.{get_or-set_same, get_or-set_other}
 use Rattle.words.specs.Word.{pow_below, capacity_of}
 use Rattle.words.proofs.Doubling.{capacity_power}
 use Rattle.tables.specs.declared.state.Kind.{Kind}
-use Rattle.tables.specs.declared.state.Kind.TheVariants as Kind
 use Rattle.tables.specs.declared.state.Machine.{Machine}
 use Rattle.tables.specs.declared.state.Queue.{Queue}
 use Rattle.tables.specs.Machine.{idle_party, zero_queue, queue_at}

@@ -7,7 +7,6 @@ use lib.Dec.{eqb}
 use lib.ListN.{length, length-set}
 use Rattle.words.specs.Word.{slot_of}
 use Rattle.tables.specs.declared.access.Access.{Access}
-use Rattle.tables.specs.declared.access.Access.TheVariants as Access
 use Rattle.tables.specs.declared.state.Queue.{Queue}
 use Rattle.tables.specs.Access.{Accessed, swaps, perform}
 use Rattle.tables.proofs.Bools.{pick_if}

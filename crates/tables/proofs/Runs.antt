@@ -6,14 +6,11 @@ use Rattle.tables.specs.declared.answer.Answer.{Answer}
 use Rattle.tables.specs.declared.answer.Change.{Change}
 use Rattle.tables.specs.declared.answer.Effect.{Effect}
 use Rattle.tables.specs.declared.call.Call.{Call}
-use Rattle.tables.specs.declared.call.Call.TheVariants as Call
 use Rattle.tables.specs.declared.call.Mark.TheVariants as Mark
 use Rattle.tables.specs.declared.state.Kind.{Kind}
 use Rattle.tables.specs.declared.state.Machine.{Machine}
 use Rattle.tables.specs.declared.place.BookPlace.{BookPlace}
-use Rattle.tables.specs.declared.place.BookPlace.TheVariants as BookPlace
 use Rattle.tables.specs.declared.place.Place.{Place}
-use Rattle.tables.specs.declared.place.Place.TheVariants as Place
 use Rattle.tables.specs.Answer.{is_pending}
 use Rattle.tables.specs.Effect.{is_none}
 use Rattle.tables.specs.Step.{Outcome, Alone, opening, begin, step, alone}

@@ -13,16 +13,13 @@ use Rattle.words.specs.Word.{pow_below}
 use Rattle.tables.specs.declared.access.Context.{Context}
 use Rattle.tables.specs.declared.access.Next.{Next}
 use Rattle.tables.specs.declared.access.Whose.{Whose}
-use Rattle.tables.specs.declared.access.Whose.TheVariants as Whose
 use Rattle.tables.specs.declared.call.Call.{Call}
 use Rattle.tables.specs.declared.call.Mark.{Mark}
 use Rattle.tables.specs.declared.state.Kind.{Kind}
-use Rattle.tables.specs.declared.state.Kind.TheVariants as Kind
 use Rattle.tables.specs.declared.state.Machine.{Machine}
 use Rattle.tables.specs.declared.state.Party.{Party}
 use Rattle.tables.specs.declared.state.Queue.{Queue}
 use Rattle.tables.specs.declared.place.Place.{Place}
-use Rattle.tables.specs.declared.place.Place.TheVariants as Place
 use Rattle.tables.specs.Machine.{idle_party, zero_queue, party_at, queue_at, base_of, stretch}
 use Rattle.tables.specs.Tables.{source_of, has_place, start, call_source}
 use Rattle.tables.specs.Step.{andb, kind_at, sound_at, sound_to, sound, begun, place_at, source_at, context_of, row_at, site, site_at, is_weak, access_at, next_at, taken}

@@ -3,9 +3,7 @@ use Prim.Native.Nat.{ℕ}
 use mathlib.Core.Path.{◌≡◌, refl, sym, ap}
 use mathlib.Core.Bool.{true, false}
 use Rattle.tables.specs.declared.call.Call.{Call}
-use Rattle.tables.specs.declared.call.Call.TheVariants as Call
 use Rattle.tables.specs.declared.state.Kind.{Kind}
-use Rattle.tables.specs.declared.state.Kind.TheVariants as Kind
 use Rattle.tables.specs.declared.place.Place.{Place}
 use Rattle.tables.specs.Tables.{is_idle, source_of, is_kind, has_place, start_lifo, start_fifo, start, call_source}
 

@@ -6,7 +6,6 @@ use mathlib.Core.List.{List}
 use lib.ListN.{length}
 use Rattle.tables.specs.declared.call.Call.{Call}
 use Rattle.tables.specs.declared.call.Mark.{Mark}
-use Rattle.tables.specs.declared.call.Mark.TheVariants as Mark
 use Rattle.tables.specs.declared.state.Machine.{Machine}
 use Rattle.tables.specs.Access.{is_cas}
 use Rattle.tables.specs.Tables.{is_idle, wish_of, wishes}

@@ -2,7 +2,6 @@
 use Rattle.std.specs.Prelude.{ℕ, Bool, true, false, List, get_or, set, eqb}
 use Rattle.words.specs.Word.{pick, slot_of}
 use Rattle.tables.specs.declared.access.Access.{Access}
-use Rattle.tables.specs.declared.access.Access.TheVariants as Access
 use Rattle.tables.specs.declared.access.Seen.{Seen}
 use Rattle.tables.specs.declared.state.Queue.{Queue}
 

@@ -3,10 +3,8 @@ use Rattle.std.specs.Prelude.{ℕ, Bool, true, false, List, [], ◌∷◌, eqb}
 use Prim.Native.String.{String}
 use Rattle.words.specs.Word.{pick}
 use Rattle.tables.specs.declared.answer.Answer.{Answer}
-use Rattle.tables.specs.declared.answer.Answer.TheVariants as Answer
 use Rattle.tables.specs.declared.answer.AnswerColumns.{AnswerColumns}
 use Rattle.tables.specs.declared.answer.Values.{Values}
-use Rattle.tables.specs.declared.answer.Values.TheVariants as Values
 
 -- What an answer leans on, for Causes: nothing; no token rested; no slot was free; a booking was open; nothing was to be booked.
 pub data Reason : Type 0 where

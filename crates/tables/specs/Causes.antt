@@ -3,22 +3,15 @@ use Rattle.std.specs.Prelude.{ℕ, ◌+◌, ◌-◌, ◌^◌, ◌<◌, ◌≡◌
 use Rattle.words.specs.Word.{pick, orb, minus, high}
 use Rattle.tables.specs.declared.answer.Answer.{Answer}
 use Rattle.tables.specs.declared.answer.Change.{Change}
-use Rattle.tables.specs.declared.answer.Change.TheVariants as Change
 use Rattle.tables.specs.declared.call.Mark.{Mark}
 use Rattle.tables.specs.declared.state.Machine.{Machine}
 use Rattle.tables.specs.declared.state.Queue.{Queue}
 use Rattle.tables.specs.declared.place.BookPlace.{BookPlace}
-use Rattle.tables.specs.declared.place.BookPlace.TheVariants as BookPlace
 use Rattle.tables.specs.declared.place.BookingCall.{BookingCall}
-use Rattle.tables.specs.declared.place.BookingCall.TheVariants as BookingCall
 use Rattle.tables.specs.declared.place.FifoPlace.{FifoPlace}
-use Rattle.tables.specs.declared.place.FifoPlace.TheVariants as FifoPlace
 use Rattle.tables.specs.declared.place.LifoPlace.{LifoPlace}
-use Rattle.tables.specs.declared.place.LifoPlace.TheVariants as LifoPlace
 use Rattle.tables.specs.declared.place.Place.{Place}
-use Rattle.tables.specs.declared.place.Place.TheVariants as Place
 use Rattle.tables.specs.declared.place.Transfer.{Transfer}
-use Rattle.tables.specs.declared.place.Transfer.TheVariants as Transfer
 use Rattle.tables.specs.Rule.{ruled}
 use Rattle.tables.specs.Machine.{queue_at}
 use Rattle.tables.specs.Answer.{Reason, nothing, none_rested, none_free, one_open, none_to_book, answer_row}

@@ -3,11 +3,9 @@ use Rattle.std.specs.Prelude.{ℕ, Bool, true, false, List, [], ◌∷◌, eqb}
 use Prim.Native.String.{String}
 use Rattle.words.specs.Word.{pick}
 use Rattle.tables.specs.declared.answer.Change.{Change}
-use Rattle.tables.specs.declared.answer.Change.TheVariants as Change
 use Rattle.tables.specs.declared.answer.ChangeColumns.{ChangeColumns}
 use Rattle.tables.specs.declared.answer.Effect.{Effect}
 use Rattle.tables.specs.declared.answer.Values.{Values}
-use Rattle.tables.specs.declared.answer.Values.TheVariants as Values
 
 pub record ChangeRow : Type 0 where
   pub number : ℕ

@@ -1,5 +1,5 @@
 -- Document 01's FIFO tables, where FIFO differs: the loads, pop, empty, booking, closing.
-use Rattle.std.specs.Prelude.{ℕ, Bool, eqb}
+use Rattle.std.specs.Prelude.{ℕ, eqb}
 use Rattle.words.specs.Word.{pick, plus, minus, packed, high, low, position}
 use Rattle.tables.specs.declared.access.Access.TheVariants as Access
 use Rattle.tables.specs.declared.access.Context.{Context}
@@ -10,7 +10,6 @@ use Rattle.tables.specs.declared.answer.Change.TheVariants as Change
 use Rattle.tables.specs.declared.place.BookPlace.TheVariants as BookPlace
 use Rattle.tables.specs.declared.place.BookingCall.{BookingCall}
 use Rattle.tables.specs.declared.place.FifoPlace.{FifoPlace}
-use Rattle.tables.specs.declared.place.FifoPlace.TheVariants as FifoPlace
 use Rattle.tables.specs.declared.place.OwnPlace.TheVariants as OwnPlace
 use Rattle.tables.specs.declared.place.Place.TheVariants as Place
 use Rattle.tables.specs.Row.{Row, own◌then◌, source◌then◌, on, ends}

@@ -1,5 +1,5 @@
 -- Document 01's LIFO tables, where LIFO differs: the loads, pop, empty, booking, closing.
-use Rattle.std.specs.Prelude.{ℕ, Bool, eqb}
+use Rattle.std.specs.Prelude.{ℕ, eqb}
 use Rattle.words.specs.Word.{pick, plus, minus, packed, high, low, position}
 use Rattle.tables.specs.declared.access.Access.TheVariants as Access
 use Rattle.tables.specs.declared.access.Context.{Context}
@@ -10,11 +10,9 @@ use Rattle.tables.specs.declared.answer.Change.TheVariants as Change
 use Rattle.tables.specs.declared.place.BookPlace.TheVariants as BookPlace
 use Rattle.tables.specs.declared.place.BookingCall.{BookingCall}
 use Rattle.tables.specs.declared.place.LifoPlace.{LifoPlace}
-use Rattle.tables.specs.declared.place.LifoPlace.TheVariants as LifoPlace
 use Rattle.tables.specs.declared.place.OwnPlace.TheVariants as OwnPlace
 use Rattle.tables.specs.declared.place.Place.TheVariants as Place
 use Rattle.tables.specs.declared.place.RoomCall.{RoomCall}
-use Rattle.tables.specs.declared.place.RoomCall.TheVariants as RoomCall
 use Rattle.tables.specs.Row.{Row, own◌then◌, source◌then◌, on, ends}
 use Rattle.tables.specs.Table.{filled, brought, counted, booked}
 

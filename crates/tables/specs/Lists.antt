@@ -3,10 +3,8 @@ use Rattle.std.specs.Prelude.{ℕ, zero, suc, ◌+◌, ◌-◌, Bool, true, fals
 use Rattle.words.specs.Word.{pick, plus, minus, high, low, slot_of, pow_below}
 use Rattle.tables.specs.declared.answer.Answer.{Answer}
 use Rattle.tables.specs.declared.answer.Change.{Change}
-use Rattle.tables.specs.declared.answer.Change.TheVariants as Change
 use Rattle.tables.specs.declared.answer.Effect.{Effect}
 use Rattle.tables.specs.declared.state.Kind.{Kind}
-use Rattle.tables.specs.declared.state.Kind.TheVariants as Kind
 use Rattle.tables.specs.declared.state.Machine.{Machine}
 use Rattle.tables.specs.declared.state.Queue.{Queue}
 use Rattle.tables.specs.Machine.{queue_at, base_of, stretch}

@@ -1,14 +1,10 @@
 -- Document 01, "Machine, parties and words".
-use Rattle.std.specs.Prelude.{ℕ, zero, suc, ◌+◌, Bool, List, ◌++◌, get_or, take, drop, eqb}
-use Rattle.words.specs.Word.{pick}
-use Rattle.tables.specs.declared.state.Drain.{Drain}
+use Rattle.std.specs.Prelude.{ℕ, zero, suc, ◌+◌, List, ◌++◌, get_or, take, drop}
 use Rattle.tables.specs.declared.state.Kind.{Kind}
-use Rattle.tables.specs.declared.state.Kind.TheVariants as Kind
 use Rattle.tables.specs.declared.state.Machine.{Machine}
 use Rattle.tables.specs.declared.state.Party.{Party}
 use Rattle.tables.specs.declared.state.Queue.{Queue}
 use Rattle.tables.specs.declared.place.Place.{Place}
-use Rattle.tables.specs.declared.place.Place.TheVariants as Place
 
 -- the party limit
 abbrev pub most : ℕ

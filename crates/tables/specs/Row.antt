@@ -1,20 +1,13 @@
 -- The form of the access tables: a row for each place says whose queue, which access, and then what is done with what was seen.
-use Rattle.std.specs.Prelude.{ℕ, Bool, true, false}
 use Rattle.tables.specs.declared.access.Access.{Access}
 use Rattle.tables.specs.declared.access.Context.{Context}
 use Rattle.tables.specs.declared.access.Next.{Next}
 use Rattle.tables.specs.declared.access.Seen.{Seen}
 use Rattle.tables.specs.declared.access.Wanted.{Wanted}
 use Rattle.tables.specs.declared.access.Whose.{Whose}
-use Rattle.tables.specs.declared.access.Whose.TheVariants as Whose
 use Rattle.tables.specs.declared.answer.Answer.{Answer}
-use Rattle.tables.specs.declared.answer.Answer.TheVariants as Answer
 use Rattle.tables.specs.declared.answer.Change.{Change}
-use Rattle.tables.specs.declared.call.Mark.{Mark}
-use Rattle.tables.specs.declared.state.Drain.{Drain}
-use Rattle.tables.specs.declared.state.Kind.{Kind}
 use Rattle.tables.specs.declared.place.Place.{Place}
-use Rattle.tables.specs.declared.place.Place.TheVariants as Place
 
 pub record Row : Type 0 where
   pub whose : Whose

@@ -1,11 +1,7 @@
 -- Kinds, count rules and the marks that a step may carry.
 use Rattle.std.specs.Prelude.{ℕ, ◌/◌}
 use Rattle.tables.specs.declared.call.Mark.{Mark}
-use Rattle.tables.specs.declared.call.Mark.TheVariants as Mark
 use Rattle.tables.specs.declared.call.Rule.{Rule}
-use Rattle.tables.specs.declared.call.Rule.TheVariants as Rule
-use Rattle.tables.specs.declared.state.Kind.{Kind}
-use Rattle.tables.specs.declared.state.Kind.TheVariants as Kind
 
 abbrev pub carried : Mark → ℕ
 carried Mark.Plain = 0

@@ -1,36 +1,24 @@
 -- Document 01, "Access tables, one line a step": what both kinds share. w is the width; every sum and difference turns over at 2 ^ w.
-use Rattle.std.specs.Prelude.{ℕ, ◌-◌, ◌^◌, Bool, true, false, ltb, eqb}
+use Rattle.std.specs.Prelude.{ℕ, ◌-◌, ◌^◌, Bool, false, ltb, eqb}
 use Rattle.words.specs.Word.{pick, plus, minus, position, least_of}
 use Rattle.tables.specs.declared.access.Access.TheVariants as Access
 use Rattle.tables.specs.declared.access.Context.{Context}
 use Rattle.tables.specs.declared.access.Next.{Next}
 use Rattle.tables.specs.declared.answer.Answer.{Answer}
-use Rattle.tables.specs.declared.answer.Answer.TheVariants as Answer
 use Rattle.tables.specs.declared.answer.Change.{Change}
-use Rattle.tables.specs.declared.answer.Change.TheVariants as Change
 use Rattle.tables.specs.declared.call.Mark.{Mark}
-use Rattle.tables.specs.declared.call.Mark.TheVariants as Mark
 use Rattle.tables.specs.declared.call.Rule.{Rule}
 use Rattle.tables.specs.declared.state.Kind.{Kind}
-use Rattle.tables.specs.declared.state.Kind.TheVariants as Kind
 use Rattle.tables.specs.declared.place.BookPlace.{BookPlace}
-use Rattle.tables.specs.declared.place.BookPlace.TheVariants as BookPlace
 use Rattle.tables.specs.declared.place.BookedTokens.{BookedTokens}
 use Rattle.tables.specs.declared.place.BookingCall.{BookingCall}
-use Rattle.tables.specs.declared.place.BookingCall.TheVariants as BookingCall
 use Rattle.tables.specs.declared.place.ClosePlace.{ClosePlace}
-use Rattle.tables.specs.declared.place.ClosePlace.TheVariants as ClosePlace
 use Rattle.tables.specs.declared.place.ClosingCall.{ClosingCall}
-use Rattle.tables.specs.declared.place.ClosingCall.TheVariants as ClosingCall
 use Rattle.tables.specs.declared.place.MovePlace.{MovePlace}
-use Rattle.tables.specs.declared.place.MovePlace.TheVariants as MovePlace
 use Rattle.tables.specs.declared.place.OwnPlace.{OwnPlace}
-use Rattle.tables.specs.declared.place.OwnPlace.TheVariants as OwnPlace
 use Rattle.tables.specs.declared.place.OwnerCall.{OwnerCall}
-use Rattle.tables.specs.declared.place.OwnerCall.TheVariants as OwnerCall
 use Rattle.tables.specs.declared.place.Place.TheVariants as Place
 use Rattle.tables.specs.declared.place.Transfer.{Transfer}
-use Rattle.tables.specs.declared.place.Transfer.TheVariants as Transfer
 use Rattle.tables.specs.declared.place.TransferCall.{TransferCall}
 use Rattle.tables.specs.Rule.{ruled}
 use Rattle.tables.specs.Row.{Row, own◌then◌, source◌then◌, on, ends}

@@ -1,5 +1,5 @@
 -- A piece of input taken line by line is the piece taken byte by byte, and what is taken in turns is taken at once.
-use Rattle.std.proofs.Common.{◌≡◌, ℕ, zero, suc, ◌+◌, ◌-◌, ◌<◌, ◌≤◌, Bool, true, false, eqb, ltb, leb, ◌⊎◌, List, [], ◌∷◌, ◌++◌, length, get_or, take, drop, set, sym, refl, ap, ◌∙◌, subst, ap₂, inl, inr, append_assoc, append-nil, add-one, arith, length-append, length-drop, drop_of_length-le, length-take-le, take_all, drop-cons, drop-drop, take-suc-set, take_at, le-ltb, lt-ltb, eq-eqb, ne_eqb, le-leb, leb-false, leb-true}
+use Rattle.std.proofs.Common.{◌≡◌, ℕ, zero, suc, ◌+◌, ◌-◌, ◌<◌, ◌≤◌, Bool, true, false, eqb, ltb, leb, ◌⊎◌, List, [], ◌∷◌, ◌++◌, length, get_or, take, drop, set, sym, refl, ap, ◌∙◌, subst, ap₂, inl, inr, append_assoc, append-nil, add-one, arith, length-append, length-drop, drop_of_length-le, length-take-le, take_all, drop-cons, drop-drop, take-suc-set, take_at, le-ltb, lt-ltb, ne_eqb, le-leb, leb-false, leb-true}
 use lib.Dec.{leb-suc-suc}
 use lib.Seq.{length-sets, take-length}
 use borrow.Author.Tests.{lt-leb}

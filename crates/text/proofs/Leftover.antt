@@ -1,6 +1,6 @@
 -- What is still to be written while input comes: a piece of input prints the front of it and leaves the remainder, whatever the room,
 -- since the line at hand stands for the bytes used of it. At the first byte it is what the lines of the whole input print.
-use Rattle.std.proofs.Common.{◌≡◌, ℕ, suc, ◌+◌, ◌-◌, ◌≤◌, Bool, true, false, eqb, leb, List, [], ◌∷◌, ◌++◌, length, take, drop, sym, refl, ap, ◌∙◌, ap₂, append_assoc, append-nil, arith, length-append, take-append-drop, ne_eqb}
+use Rattle.std.proofs.Common.{◌≡◌, ℕ, suc, ◌+◌, ◌-◌, Bool, true, false, eqb, leb, List, [], ◌∷◌, ◌++◌, length, take, drop, sym, refl, ap, ◌∙◌, ap₂, append_assoc, append-nil, arith, length-append, take-append-drop, ne_eqb}
 use lib.Seq.{drop-append-le}
 use Rattle.words.specs.Word.{pick}
 use Rattle.text.specs.Session.{State, Turn, line_taken, counted, next_of}

@@ -1,5 +1,5 @@
 -- Many lines of a piece, one after the other: what the loop keeps, and that each kind of line keeps it.
-use Rattle.std.proofs.Common.{◌≡◌, ℕ, suc, ◌+◌, ◌-◌, ◌%◌, ◌^◌, ◌<◌, ◌≤◌, Bool, true, false, ltb, List, [], ◌∷◌, length, get_or, take, drop, set, sym, refl, ap, ⊎_elim, ◌⊎◌, ◌∙◌, subst, ap₂, true≢false, arith, length-drop, ltb-true, ne_eqb}
+use Rattle.std.proofs.Common.{◌≡◌, ℕ, suc, ◌+◌, ◌-◌, ◌%◌, ◌^◌, ◌<◌, ◌≤◌, Bool, true, false, ltb, List, [], length, get_or, take, drop, set, sym, refl, ap, ⊎_elim, ◌⊎◌, ◌∙◌, subst, ap₂, true≢false, arith, length-drop, ltb-true, ne_eqb}
 use lib.Seq.{length-sets, take-length}
 use Rattle.words.specs.Edition.{width}
 use Rattle.words.specs.Word.{pick, Pow}
@@ -7,9 +7,7 @@ use Rattle.text.specs.Bytes.{slice, index_of}
 use Rattle.tables.specs.declared.access.Context.{Context}
 use Rattle.tables.specs.declared.access.Next.{Next}
 use Rattle.tables.specs.declared.access.Whose.{Whose}
-use Rattle.tables.specs.declared.access.Whose.TheVariants as Whose
 use Rattle.tables.specs.declared.answer.Answer.{Answer}
-use Rattle.tables.specs.declared.answer.Answer.TheVariants as Answer
 use Rattle.tables.specs.declared.call.Act.TheVariants as Act
 use Rattle.tables.specs.declared.call.Call.{Call}
 use Rattle.tables.specs.declared.call.Mark.{Mark}
@@ -26,11 +24,9 @@ use Rattle.machine.specs.declared.row.Look.{Look}
 use Rattle.machine.specs.Look.{look, context_for, Fit}
 use Rattle.machine.proofs.Rows as R
 use Rattle.text.specs.declared.Line.{Line}
-use Rattle.text.specs.declared.Line.TheVariants as Line
 use Rattle.text.specs.declared.Found.{Found}
 use Rattle.text.specs.declared.session.Session.{Session}
 use Rattle.text.specs.declared.session.Stage.{Stage}
-use Rattle.text.specs.declared.session.Stage.TheVariants as Stage
 use Rattle.text.specs.Line.{read_of}
 use Rattle.text.specs.Write.{Wrote, answer_of, refused_of}
 use Rattle.text.specs.Session.{Turn, state_of, at_line, counted, is_running, stays, refuses, outcome_text, acts, line_taken, next_of}

@@ -1,6 +1,5 @@
 -- The fields of a line, found one after the other.
-use Rattle.std.proofs.Common.{◌≡◌, ℕ, zero, suc, ◌+◌, ◌-◌, ◌<◌, ◌≤◌, Bool, true, false, not, eqb, ltb, leb, List, [], ◌∷◌, map, length, take, drop, sym, refl, ap, ◌∙◌, arith, length-drop, drop-drop, le-ltb, lt-ltb, ne_eqb, le-leb, leb-false, leb-true}
-use mathlib.Core.Path.{fun_ext}
+use Rattle.std.proofs.Common.{◌≡◌, ℕ, suc, ◌+◌, ◌-◌, ◌<◌, ◌≤◌, Bool, true, false, eqb, ltb, leb, List, [], ◌∷◌, map, length, take, drop, sym, refl, ap, ◌∙◌, arith, length-drop, drop-drop, le-ltb, lt-ltb, ne_eqb, le-leb, leb-false, leb-true}
 use mathlib.Core.Option.{Option}
 use lib.Seq.{take-length}
 use lib.Dec.{leb-suc-suc}
@@ -8,10 +7,9 @@ use borrow.Author.Tests.{lt-leb}
 use Rattle.words.specs.Word.{pick}
 use Rattle.text.specs.Bytes.{slice, index_of, index_after}
 use Rattle.text.specs.Ascii.{same}
-use Rattle.text.specs.Line.{Word, spelt, Field, field_of, onto, parted, fields, fields_from, ended}
+use Rattle.text.specs.Line.{Word, spelt, field_of, onto, parted, fields, fields_from, ended}
 use Rattle.text.specs.Number.{number_of}
-use Rattle.text.specs.View.{code_is, Coded, view_num, view_field, NextOf}
-use Rattle.text.specs.declared.read.Num as Num·d
+use Rattle.text.specs.View.{code_is, Coded, view_field, NextOf}
 use Rattle.text.specs.declared.read.Field as Field·d
 
 -- the first part ends at the first tab, and the others follow it

@@ -9,10 +9,8 @@ use Rattle.tables.specs.Answer.{is_pending}
 use Rattle.tables.specs.Step.{Outcome, of_outcome, begin, step}
 use Rattle.tables.proofs.Refused.{Unchanged, begin_unchanged, step_unchanged}
 use Rattle.text.specs.declared.Line.{Line}
-use Rattle.text.specs.declared.Line.TheVariants as Line
 use Rattle.text.specs.declared.session.Session.{Session}
 use Rattle.text.specs.declared.session.Stage.{Stage}
-use Rattle.text.specs.declared.session.Stage.TheVariants as Stage
 use Rattle.text.specs.Line.{read_of}
 use Rattle.text.specs.Write.{answer_of, refused_of}
 use Rattle.text.specs.Session.{State, Turn, state_of, counted, is_running, is_over, outcome_text, acts, line_taken, next_of}

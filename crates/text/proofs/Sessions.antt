@@ -1,8 +1,8 @@
 -- What is told when nothing is printed, and when the machine stays.
-use Rattle.std.proofs.Common.{◌≡◌, ℕ, List, [], sym, refl, ap, ◌∙◌, subst, arith}
+use Rattle.std.proofs.Common.{◌≡◌, ℕ, List, [], ap, arith}
 use Rattle.tables.specs.declared.state.Machine.{Machine}
 use Rattle.text.specs.declared.session.Session.{Session}
-use Rattle.text.specs.Session.{Said, Turn, Told, Took, stays}
+use Rattle.text.specs.Session.{Said, Told, Took, stays}
 use Rattle.text.proofs.Writing.{wrote_none}
 
 pub told_none : {x s : Session} (l : List ℕ) (at : ℕ) → x ≡ s → Told (record { session = s; text = [] }) x l at l at

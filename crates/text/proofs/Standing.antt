@@ -6,10 +6,8 @@ use Rattle.words.specs.Word.{pick}
 use Rattle.text.specs.Bytes.{index_of, index_after}
 use Rattle.tables.specs.declared.call.Call.{Call}
 use Rattle.tables.specs.declared.call.Mark.{Mark}
-use Rattle.tables.specs.declared.call.Mark.TheVariants as Mark
 use Rattle.tables.specs.declared.call.Rule.{Rule}
 use Rattle.text.specs.declared.Line.{Line}
-use Rattle.text.specs.declared.Line.TheVariants as Line
 use Rattle.text.specs.Ascii.{ascii, same}
 use Rattle.text.specs.Line.{Field, field_of, onto, parted, fields, rule_of, both, aimed, aim_of, call_of, mark_of, read, step_line, begin_line, line_of, read_of, last_number}
 use Rattle.text.specs.Number.{number_of, digits_of}

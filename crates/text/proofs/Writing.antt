@@ -1,5 +1,5 @@
 -- Runs of stores, and digits stored from the end.
-use Rattle.std.proofs.Common.{◌≡◌, ℕ, zero, suc, ◌+◌, ◌-◌, ◌/◌, ◌%◌, ◌<◌, ◌≤◌, List, [], ◌∷◌, ◌++◌, length, get_or, take, drop, set, sym, refl, ap, ◌∙◌, append-nil, add-zero, add-suc, suc-add, add-one, arith, length-append, length-drop, length-set, take_all, drop-cons, take-suc, get_or-set_same, drop-set-lt, eq-eqb, ne_eqb}
+use Rattle.std.proofs.Common.{◌≡◌, ℕ, suc, ◌+◌, ◌-◌, ◌/◌, ◌%◌, ◌<◌, ◌≤◌, List, [], ◌∷◌, ◌++◌, length, get_or, take, drop, set, sym, refl, ap, ◌∙◌, append-nil, add-zero, add-suc, suc-add, add-one, arith, length-append, length-drop, length-set, take_all, drop-cons, take-suc, get_or-set_same, drop-set-lt, eq-eqb, ne_eqb}
 use lib.Seq.{sets}
 use Rattle.text.specs.Number.{digits_to}
 use Rattle.text.specs.Write.{Wrote, field_for, fields_for}

@@ -1,6 +1,6 @@
 -- The same in pieces: input as it comes, output as there is room for it. proofs/Pieces.antt shows that nothing of this is seen in the
 -- bytes written, put together.
-use Rattle.std.specs.Prelude.{◌≡◌, ℕ, zero, suc, ◌+◌, ◌-◌, ◌≤◌, Bool, true, false, List, [], ◌∷◌, ◌++◌, length, take, drop, ◌==◌, nat_le, nat_lt, slice_index}
+use Rattle.std.specs.Prelude.{◌≡◌, ℕ, zero, suc, ◌+◌, ◌-◌, ◌≤◌, Bool, false, List, [], ◌∷◌, ◌++◌, length, take, drop, ◌==◌, nat_le, nat_lt, slice_index}
 use Rattle.words.specs.Edition.{width}
 use Rattle.words.specs.Word.{pick}
 use Rattle.tables.specs.Machine.{most}

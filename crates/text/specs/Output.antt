@@ -1,6 +1,6 @@
 -- The schedule program whole, from the bytes of its input to the bytes of its output: document 01, "The schedule program". w is the
 -- width, `most` the party limit.
-use Rattle.std.specs.Prelude.{ℕ, zero, suc, ◌+◌, ◌-◌, Bool, List, [], ◌∷◌, ◌++◌, ◌==◌, nat_lt}
+use Rattle.std.specs.Prelude.{ℕ, zero, suc, List, [], ◌∷◌, ◌++◌, ◌==◌, nat_lt}
 use Rattle.words.specs.Word.{pick}
 use Rattle.tables.specs.declared.state.Kind.TheVariants as Kind
 use Rattle.tables.specs.declared.state.Machine.{Machine}

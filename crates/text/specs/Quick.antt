@@ -1,5 +1,5 @@
 -- Lines read where they stand in a block: what each reader says of the rest of the line.
-use Rattle.std.specs.Prelude.{◌≡◌, ℕ, suc, ◌+◌, ◌-◌, ◌*◌, ◌<◌, ◌≤◌, Bool, true, false, List, [], ◌∷◌, ◌++◌, length, take, drop, ◌≢◌, nat_le, slice_index, slice_range}
+use Rattle.std.specs.Prelude.{◌≡◌, ℕ, suc, ◌+◌, ◌*◌, ◌<◌, ◌≤◌, Bool, true, false, List, [], ◌∷◌, ◌++◌, length, take, drop, ◌≢◌, nat_le, slice_index, slice_range}
 use Rattle.std.proofs.Math.Option.{Option, some}
 use Rattle.words.specs.Word.{pick}
 use Rattle.text.specs.Bytes.{index_of}

@@ -3,17 +3,14 @@ use Rattle.std.specs.Prelude.{◌≡◌, ℕ, zero, suc, ◌+◌, ◌-◌, ◌^�
 use Rattle.words.specs.Word.{pick, plus}
 use Rattle.tables.specs.declared.answer.Answer.{Answer}
 use Rattle.tables.specs.declared.state.Kind.{Kind}
-use Rattle.tables.specs.declared.state.Kind.TheVariants as Kind
 use Rattle.tables.specs.declared.state.Machine.{Machine}
 use Rattle.tables.specs.Answer.{is_pending}
 use Rattle.tables.specs.declared.call.Act.TheVariants as Act
 use Rattle.tables.specs.declared.state.Opened.{Opened}
 use Rattle.tables.specs.Step.{andb, every_kind, opening, Result, acted}
 use Rattle.text.specs.declared.Line.{Line}
-use Rattle.text.specs.declared.Line.TheVariants as Line
 use Rattle.text.specs.declared.session.Session.{Session}
 use Rattle.text.specs.declared.session.Stage.{Stage}
-use Rattle.text.specs.declared.session.Stage.TheVariants as Stage
 use Rattle.text.specs.Line.{read_of}
 use Rattle.text.specs.Write.{Wrote, answer_of, refused_of}
 

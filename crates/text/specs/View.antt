@@ -12,15 +12,10 @@ use Rattle.text.specs.Line.{Word, spelt, fields_from}
 use Rattle.text.specs.declared.read.Num.{Num}
 use Rattle.text.specs.declared.read.Field.{Field}
 use Rattle.text.specs.declared.read.Ruled.{Ruled}
-use Rattle.text.specs.declared.read.Ruled.TheVariants as Ruled
 use Rattle.text.specs.declared.read.Aimed.{Aimed}
-use Rattle.text.specs.declared.read.Aimed.TheVariants as Aimed
 use Rattle.text.specs.declared.read.Called.{Called}
-use Rattle.text.specs.declared.read.Called.TheVariants as Called
 use Rattle.text.specs.declared.read.Marked.{Marked}
-use Rattle.text.specs.declared.read.Marked.TheVariants as Marked
 use Rattle.text.specs.declared.read.Kinded.{Kinded}
-use Rattle.text.specs.declared.read.Kinded.TheVariants as Kinded
 
 abbrev pub view_num : Num → Option ℕ
 view_num n = pick n.good (some n.value) none

@@ -67,7 +67,7 @@ fn context_of(party: Party, own: Queue, source: Queue, mark: Mark) -> Context
 // The access that a step makes of the queue that it reaches, whose stretch of the items starts at `base`.
 fn reach(queue: Queue, items: &mut [u64], base: usize, access: Access, mark: Mark) -> Performed
     requires pow { Pow queue.capacity }
-    requires capacity_in_bounds { base + queue.capacity ≤ length items.old }
+    requires within { base + queue.capacity ≤ length items.old }
     ensures { P.Reaches queue items.old base access mark items.new result }
 {
     let end = base + queue.capacity as usize;
@@ -87,9 +87,9 @@ pub fn lines(
     put0: usize,
 ) -> After
     requires fit { Fit m0 starts (length items.old) }
-    requires stage_value { is_running session.stage ≡ true }
-    requires from0_in_bounds { from0 ≤ length piece.now }
-    requires put0_in_bounds { put0 ≤ length out.old }
+    requires running { is_running session.stage ≡ true }
+    requires from_within { from0 ≤ length piece.now }
+    requires put_within { put0 ≤ length out.old }
     ensures { Gets piece.now (F.flow (state_of session m0 items.old) []) from0 out.old put0
         (F.flow (state_of (at_line result.line session) result.machine items.new) []) result.from out.new result.put }
 {

@@ -425,7 +425,7 @@ fn mark(s: &[u8], at: usize) -> Marking
 // ---- lines
 
 fn step(s: &[u8], from: usize) -> Found
-    requires from_in_bounds { from + 32 ≤ length s.now }
+    requires within { from + 32 ≤ length s.now }
     requires stands { Q.Stands s.now from (ascii "step") }
     ensures { Quick width s.now from result }
 {
@@ -463,7 +463,7 @@ fn step(s: &[u8], from: usize) -> Found
 }
 
 fn begin(s: &[u8], from: usize) -> Found
-    requires from_in_bounds { from + 32 ≤ length s.now }
+    requires within { from + 32 ≤ length s.now }
     requires stands { Q.Stands s.now from (ascii "begi") }
     ensures { Quick width s.now from result }
 {

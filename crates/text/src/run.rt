@@ -21,7 +21,7 @@ const KEPT: usize = 121;
 
 // A run between two pieces: the first `count` bytes of `held` are the line at hand; `queue` and `part` are how far the rest lines
 // have come.
-#[derive(Drop)]
+#[derive(Clone, Copy)]
 pub struct Run {
     pub session: Session,
     pub machine: Machine,
@@ -56,8 +56,8 @@ struct Longer {
 
 // Before the first byte.
 pub fn start(items: &[u64]) -> Run
-    ensures value { F.flow_of result items.now ≡ F.flow (O.fresh most items.now) [] }
-    ensures result_value { F.cursor_of result ≡ F.cursor 0 0 }
+    ensures flow_is { F.flow_of result items.now ≡ F.flow (O.fresh most items.now) [] }
+    ensures cursor_is { F.cursor_of result ≡ F.cursor 0 0 }
 {
     let opened = machine::open::open(Kind::Lifo, 0, [0u64; MOST], [0u32; MOST], items);
     let machine = opened.machine;
@@ -84,17 +84,17 @@ pub fn is_over(run: Run) -> bool
 
 // How many bytes are kept of so many.
 fn fewest(count: usize) -> usize
-    ensures upper_bound { result ≤ 121 }
-    ensures by_index { (l : List ℕ) → length l ≡ 121 → take result l ≡ take count l }
+    ensures near { result ≤ 121 }
+    ensures same { (l : List ℕ) → length l ≡ 121 → take result l ≡ take count l }
 {
     if count < KEPT { count } else { KEPT }
 }
 
 // More bytes of the line at hand; past 121 they are dropped.
 fn keep(held: [u8; KEPT], count: usize, more: &[u8]) -> Longer
-    ensures held_value { take result.count result.held ≡ F.kept_all (take count held) more.now }
-    ensures count_bound { result.count ≤ 121 }
-    ensures value { 121 ≡ length result.held }
+    ensures line_is { take result.count result.held ≡ F.kept_all (take count held) more.now }
+    ensures few { result.count ≤ 121 }
+    ensures length_is { 121 ≡ length result.held }
 {
     let mut line = held;
     let mut n = fewest(count);
@@ -122,12 +122,12 @@ fn one_line(
     out: &mut [u8],
     put: usize,
 ) -> Fed
-    requires used_in_bounds { used < length piece.now }
-    requires put_in_bounds { put + 128 ≤ length out.old }
+    requires within { used < length piece.now }
+    requires room { put + 128 ≤ length out.old }
     ensures gets { Gets piece.now (F.flow_of run items.old) used out.old put
         (F.flow_of result.run items.new) result.used out.new result.put }
-    ensures run_value { F.cursor_of result.run ≡ F.cursor_of run }
-    ensures used_lt_used { used < result.used }
+    ensures cursor_is { F.cursor_of result.run ≡ F.cursor_of run }
+    ensures onward { used < result.used }
 {
     let session = run.session;
     let machine = run.machine;
@@ -169,8 +169,8 @@ fn one_line(
 
 // A run after lines that left its machine and its line count so; no line is at hand.
 fn run_after(run: Run, machine: Machine, line: u64) -> Run
-    ensures by_index { (xs : List ℕ) → F.flow_of result xs ≡ F.flow (N.state_of (N.at_line line run.session) machine xs) [] }
-    ensures result_value { F.cursor_of result ≡ F.cursor_of run }
+    ensures flow_is { (xs : List ℕ) → F.flow_of result xs ≡ F.flow (N.state_of (N.at_line line run.session) machine xs) [] }
+    ensures cursor_is { F.cursor_of result ≡ F.cursor_of run }
 {
     let mut session = run.session;
     session.line = line;
@@ -194,11 +194,11 @@ fn many_lines(
     out: &mut [u8],
     put: usize,
 ) -> Fed
-    requires used_in_bounds { used ≤ length piece.now }
-    requires put_in_bounds { put ≤ length out.old }
+    requires within { used ≤ length piece.now }
+    requires room { put ≤ length out.old }
     ensures gets { Gets piece.now (F.flow_of run items.old) used out.old put
         (F.flow_of result.run items.new) result.used out.new result.put }
-    ensures run_value { F.cursor_of result.run ≡ F.cursor_of run }
+    ensures cursor_is { F.cursor_of result.run ≡ F.cursor_of run }
 {
     let session = run.session;
     let machine = run.machine;
@@ -238,8 +238,8 @@ fn many_lines(
 pub fn feed(run: Run, items: &mut [u64], piece: &[u8], out: &mut [u8]) -> Fed
     ensures feeds { Feeds (F.fed_in width most (length out.old) (F.flow_of run items.old) piece.now)
         (F.cursor_of run) result items.new out.old out.new }
-    ensures used_in_bounds { result.used ≤ length piece.now }
-    ensures used_nonzero { F.enough ≤ length out.old → 0 < length piece.now → 0 < result.used }
+    ensures within { result.used ≤ length piece.now }
+    ensures onward { F.enough ≤ length out.old → 0 < length piece.now → 0 < result.used }
 {
     let mut fed = Fed {
         run: run,
@@ -271,7 +271,7 @@ fn put_part(
 ) -> usize
     requires { put + 128 ≤ length out.old }
     ensures wrote { Wrote out.old put (F.part_of width resting items.now (F.cursor queue part)) out.new result }
-    ensures upper_bound { result ≤ put + 128 }
+    ensures near { result ≤ put + 128 }
 {
     if part == 0 {
         return write::put_rest(out, put, queue);
@@ -294,8 +294,8 @@ struct Progress {
 // The part after one.
 fn part_after(resting: Resting, queue: u64, part: u64, put: usize) -> Progress
     requires { queue < 2 ^ 32 }
-    ensures part_value { F.cursor result.queue result.part ≡ F.part_after resting (F.cursor queue part) }
-    ensures put_value { result.put ≡ put }
+    ensures cursor_is { F.cursor result.queue result.part ≡ F.part_after resting (F.cursor queue part) }
+    ensures put_is { result.put ≡ put }
 {
     if part <= (resting.count as u64) {
         return Progress {
@@ -313,8 +313,8 @@ fn part_after(resting: Resting, queue: u64, part: u64, put: usize) -> Progress
 
 // How many queues there are to write of: none where the run never opened its machine.
 fn queues_of(session: Session, parties: u32) -> u64
-    ensures value { result ≡ pick (N.is_running session.stage) parties 0 }
-    ensures upper_bound { result < 2 ^ 32 }
+    ensures number_is { result ≡ pick (N.is_running session.stage) parties 0 }
+    ensures near { result < 2 ^ 32 }
 {
     let stage = session.stage;
     if session::is_running(stage) {
@@ -335,7 +335,7 @@ fn parts(
     requires { from.put ≤ length out.old }
     ensures gets_parts { GetsParts (N.state_of session machine items.now) (F.cursor from.queue from.part) out.old from.put
         (F.cursor result.queue result.part) out.new result.put }
-    ensures fact { (length out.old - result.put < F.enough) ⊎ (O.queues_of (N.state_of session machine items.now) ≤ result.queue) }
+    ensures over { (length out.old - result.put < F.enough) ⊎ (O.queues_of (N.state_of session machine items.now) ≤ result.queue) }
 {
     let queues = queues_of(session, machine.parties);
     let mut at = from;

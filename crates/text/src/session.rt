@@ -338,7 +338,7 @@ fn queue_taken(
 fn put_outcome(out: &mut [u8], at: usize, line: u64, who: u64, answer: Answer, refusal: u8) -> usize
     requires { at + 128 ≤ length out.old }
     ensures wrote { Wrote out.old at (N.outcome_text line who answer refusal) out.new result }
-    ensures upper_bound { result ≤ at + 128 }
+    ensures near { result ≤ at + 128 }
 {
     if refusal == 0 {
         if answer::is_pending(answer) {

@@ -45,7 +45,7 @@ fn digits(n: u64, text: &mut [u8]) -> usize
 pub fn put_decimal(out: &mut [u8], at: usize, n: u64) -> usize
     requires { at + 20 ≤ length out.old }
     ensures wrote { Wrote out.old at (decimal_of n) out.new result }
-    ensures upper_bound { result ≤ at + 20 }
+    ensures near { result ≤ at + 20 }
 {
     let mut text = [0u8; 20];
     let i = digits(n, &mut text);
@@ -55,7 +55,7 @@ pub fn put_decimal(out: &mut [u8], at: usize, n: u64) -> usize
 pub fn put_field(out: &mut [u8], at: usize, n: u64) -> usize
     requires { at + 21 ≤ length out.old }
     ensures wrote { Wrote out.old at (Wr.field_for n) out.new result }
-    ensures upper_bound { result ≤ at + 21 }
+    ensures near { result ≤ at + 21 }
 {
     let tab = put_bytes(out, at, b"\t");
     put_decimal(out, tab, n)
@@ -66,7 +66,7 @@ pub fn put_field(out: &mut [u8], at: usize, n: u64) -> usize
 fn put_word(out: &mut [u8], at: usize, a: Answer) -> usize
     requires { at + 8 ≤ length out.old }
     ensures wrote { Wrote out.old at (ascii (answer_row a).word) out.new result }
-    ensures upper_bound { result ≤ at + 8 }
+    ensures near { result ≤ at + 8 }
 {
     match a {
         Answer::Pending => at,
@@ -92,7 +92,7 @@ fn put_word(out: &mut [u8], at: usize, a: Answer) -> usize
 fn put_numbers(out: &mut [u8], at: usize, v: Values) -> usize
     requires { at + 42 ≤ length out.old }
     ensures wrote { Wrote out.old at (Wr.fields_for (Wr.numbers_of v)) out.new result }
-    ensures upper_bound { result ≤ at + 42 }
+    ensures near { result ≤ at + 42 }
 {
     match v {
         Values::None => at,
@@ -108,7 +108,7 @@ fn put_numbers(out: &mut [u8], at: usize, v: Values) -> usize
 pub fn put_answer(out: &mut [u8], at: usize, party: u64, a: Answer) -> usize
     requires { at + 128 ≤ length out.old }
     ensures wrote { Wrote out.old at (Wr.answer_of party a) out.new result }
-    ensures upper_bound { result ≤ at + 128 }
+    ensures near { result ≤ at + 128 }
 {
     let row = answer::answer_row(a);
     let values = row.values;
@@ -125,7 +125,7 @@ pub fn put_answer(out: &mut [u8], at: usize, party: u64, a: Answer) -> usize
 pub fn put_refused(out: &mut [u8], at: usize, line: u64, code: u64) -> usize
     requires { at + 128 ≤ length out.old }
     ensures wrote { Wrote out.old at (Wr.refused_of line code) out.new result }
-    ensures upper_bound { result ≤ at + 128 }
+    ensures near { result ≤ at + 128 }
 {
     let word = put_bytes(out, at, b"refused");
     let field = put_field(out, word, line);
@@ -137,7 +137,7 @@ pub fn put_refused(out: &mut [u8], at: usize, line: u64, code: u64) -> usize
 pub fn put_rest(out: &mut [u8], at: usize, queue: u64) -> usize
     requires { at + 128 ≤ length out.old }
     ensures wrote { Wrote out.old at (Wr.rest_head queue) out.new result }
-    ensures upper_bound { result ≤ at + 128 }
+    ensures near { result ≤ at + 128 }
 {
     let word = put_bytes(out, at, b"rest");
     put_field(out, word, queue)
@@ -146,7 +146,7 @@ pub fn put_rest(out: &mut [u8], at: usize, queue: u64) -> usize
 pub fn put_end(out: &mut [u8], at: usize) -> usize
     requires { at + 128 ≤ length out.old }
     ensures wrote { Wrote out.old at (ascii "\n") out.new result }
-    ensures upper_bound { result ≤ at + 128 }
+    ensures near { result ≤ at + 128 }
 {
     put_bytes(out, at, b"\n")
 }

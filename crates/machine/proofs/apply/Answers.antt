@@ -1,5 +1,5 @@
 -- All entries surveyed are the record test, and the turn made of party and queues is the machine's act.
-use Rattle.std.proofs.Common.{ℕ, ◌+◌, ◌≡◌, sym, ap, subst, ◌∙◌, arith}
+use Rattle.std.proofs.Common.{ℕ, ◌+◌, sym, ap, subst, ◌∙◌, arith}
 use Rattle.words.specs.Edition.{width}
 use Rattle.tables.specs.Machine.{most}
 use Rattle.machine.specs.declared.soundness.Survey.{Survey}
@@ -25,9 +25,9 @@ loop-i-preserved c =
     record {
       within = omega arith;
       few = v.invariant.few;
-      small = omega (arith, c.surveyed-s.ensures.total_bound);
+      small = omega (arith, c.surveyed-s.ensures.total_grows);
       surveyed =
-          subst (λ (s : Survey). Surveyed width m c.args.who c.source_of-from.result (v.i + 1) s) (sym c.surveyed-s.ensures.value)
+          subst (λ (s : Survey). Surveyed width m c.args.who c.source_of-from.result (v.i + 1) s) (sym c.surveyed-s.ensures.survey_is)
           (more r c.args.who c.source_of-from.result c.bound-bound.result c.bound-bound.ensures v.i v.s c.source_of-f.result c.fine.result
           c.loop-i-test.true v.invariant.surveyed c.source_of-f.ensures (rw c.index-j.ensures at c.fine.ensures));
     }

@@ -5,11 +5,11 @@ use Rattle.machine.proofs.Opens.{filling_start, filling_more}
 use Rattle.machine.proofs.open.fill.Goals as goal
 
 pub loop-i-init : goal.loop-i-init
-loop-i-init c = filling_start _ _ _ _ c.requires.n_le_most _ c.requires.machine_value
+loop-i-init c = filling_start _ _ _ _ c.requires.few _ c.requires.blank
 
 pub fresh-q-requires : goal.fresh-q-requires
-fresh-q-requires c = requests_small width [] _ [] _ c.requires.n_value c.loop-i.i c.loop-i-test.true
+fresh-q-requires c = requests_small width [] _ [] _ c.requires.small c.loop-i.i c.loop-i-test.true
 
 pub loop-i-preserved : goal.loop-i-preserved
 loop-i-preserved c =
-    filling_more _ _ _ _ c.requires.n_le_most _ _ _ _ c.loop-i-test.true (search rules) c.fresh-q.ensures c.loop-i.invariant
+    filling_more _ _ _ _ c.requires.few _ _ _ _ c.loop-i-test.true (search rules) c.fresh-q.ensures c.loop-i.invariant

@@ -29,12 +29,12 @@ returns-then-items-f c =
     let some : 0 < n = omega (arith, c.if-parties-eq0.false) in let f = c.fill-f.ensures in
     opened_refused width most ks n _ _ lent c.blank-closed.ensures
     (sum_refused width most ks n _ _ lent some c.if-parties.false (sym c.over.ensures ∙ c.if-over.false)
-    (omega (arith, f.total_value, c.if-items-f.true))) (omega arith)
+    (omega (arith, f.total_is, c.if-items-f.true))) (omega arith)
 
 pub returns : goal.returns
 returns c =
     let a = c.args in let ks = every_kind most a.kind in let n = a.parties in let lent = length a.items.now in
     let some : 0 < n = omega (arith, c.if-parties-eq0.false) in let f = c.fill-f.ensures in
-    opened_taken width most ks n _ _ lent f.machine_value_2
+    opened_taken width most ks n _ _ lent f.machine_is
     (none_refusal width most ks n _ _ lent some c.if-parties.false (sym c.over.ensures ∙ c.if-over.false)
-    (omega (arith, f.total_value, c.if-items-f.false)))
+    (omega (arith, f.total_is, c.if-items-f.false)))

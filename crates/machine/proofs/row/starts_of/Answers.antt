@@ -14,10 +14,10 @@ loop-i-preserved c =
     let m = c.args.m in let v = c.loop-i in
     started_more m c.bound-bound.ensures (parties_many m c.well_formed.0) (queues_many m c.well_formed.0) c.source_of-from.result c.fine.result
     c.loop-i-test.true v.invariant c.source_of-from.ensures
-    (rw c.index-y.ensures at c.fine.ensures) c.surveyed-s.ensures.value c.surveyed-s.ensures.total_bound
+    (rw c.index-y.ensures at c.fine.ensures) c.surveyed-s.ensures.survey_is c.surveyed-s.ensures.total_grows
 
-pub returns-clause-sound_value : goal.returns-clause-sound_value
-returns-clause-sound_value c =
+pub returns-clause-sound_is : goal.returns-clause-sound_is
+returns-clause-sound_is c =
     c.passed.ensures ∙ started_sound c.args.m c.bound-bound.ensures c.loop-i.invariant c.loop-i-test.false c.args.lent
 
 pub returns-clause-fit : goal.returns-clause-fit

@@ -1,33 +1,30 @@
 -- A desk that is ready has its stretch inside the items, so the access is made there, and what was seen goes on by the same row.
-use Rattle.std.proofs.Common.{◌+◌, ◌-◌, ap, arith}
+use Rattle.std.proofs.Common.{◌+◌, ◌-◌, arith}
 use Rattle.words.specs.Edition.{width}
-use Rattle.words.proofs.Powers.{pow_positive}
 use Rattle.tables.specs.Access.{shows}
-use Rattle.tables.proofs.Bases.{stretch_length}
-use Rattle.machine.specs.declared.desk.Reached.{Reached}
 use Rattle.machine.proofs.Turns.{within_of, one_is, size_is}
 use Rattle.machine.proofs.turn.taken.Goals as goal
 
 pub overflow_add-end : goal.overflow_add-end
 overflow_add-end c =
-    let v = within_of width c.args.mark c.requires.ready c.requires.r_value in
+    let v = within_of width c.args.mark c.requires.ready c.requires.reached in
     record { fits = omega (arith, v.fits, c.type_inv.items) }
 
 pub offset_bounds-items-base : goal.offset_bounds-items-base
 offset_bounds-items-base c =
-    let v = within_of width c.args.mark c.requires.ready c.requires.r_value in
+    let v = within_of width c.args.mark c.requires.ready c.requires.reached in
     record { fits = omega (arith, v.fits, c.type_inv.items) }
 
 pub slice_bounds-perform-end : goal.slice_bounds-perform-end
-slice_bounds-perform-end c = let v = within_of width c.args.mark c.requires.ready c.requires.r_value in omega (arith, v.fits)
+slice_bounds-perform-end c = let v = within_of width c.args.mark c.requires.ready c.requires.reached in omega (arith, v.fits)
 
 pub perform-done-requires-clause-pow : goal.perform-done-requires-clause-pow
 perform-done-requires-clause-pow c =
-    let v = within_of width c.args.mark c.requires.ready c.requires.r_value in v.power
+    let v = within_of width c.args.mark c.requires.ready c.requires.reached in v.power
 
 pub returns : goal.returns
 returns c =
     let r = c.args.r in let p = c.perform-done in
     one_is width c.args.l c.args.desk c.args.items.now c.args.mark r (r.base + r.queue.capacity - r.base)
-    (shows p.result.queue p.new.items p.result.seen) c.requires.r_value (size_is r.base r.queue.capacity)
+    (shows p.result.queue p.new.items p.result.seen) c.requires.reached (size_is r.base r.queue.capacity)
     (rw c.is_weak.ensures at p.ensures) (c.went.ensures p.new.items)

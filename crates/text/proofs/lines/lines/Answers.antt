@@ -2,7 +2,7 @@
 use Rattle.std.proofs.Common.{◌<◌, sym, ap, ◌∙◌, arith, rules}
 use Rattle.tables.specs.Machine.{most}
 use Rattle.machine.specs.declared.row.Look.{Look}
-use Rattle.text.proofs.Looping.{further, goes_none, goes_other, goes_begin_refused, goes_begin_taken, site_in}
+use Rattle.text.proofs.Looping.{further, goes_other, goes_begin_refused, goes_begin_taken, site_in}
 use Rattle.text.proofs.Looping.{goes_step_refused, goes_step_pending, goes_step_answered, own_some, site_ready}
 use Rattle.text.proofs.lines.lines.Goals as goal
 
@@ -46,7 +46,7 @@ pub loop-out-preserved-else-code-eq0 : goal.loop-out-preserved-else-code-eq0
 loop-out-preserved-else-code-eq0 c =
     let v = c.loop-out in let n = c.next_line-found in let w = c.wrapping_add_u64-line in let p = c.put_refused-put.ensures in
     goes_begin_refused v.invariant c.loop-out-test.true n.result n.ensures c.if-found-from.false w.result w.ensures.value
-    _ _ c.in-Begin.is c.index-x.result c.index-x.ensures c.begin_code-code.result c.begin_code-code.ensures c.if-code-eq0.false _ _ p.wrote p.upper_bound
+    _ _ c.in-Begin.is c.index-x.result c.index-x.ensures c.begin_code-code.result c.begin_code-code.ensures c.if-code-eq0.false _ _ p.wrote p.near
 
 pub loop-out-preserved-then-r-ne0 : goal.loop-out-preserved-then-r-ne0
 loop-out-preserved-then-r-ne0 c =
@@ -54,7 +54,7 @@ loop-out-preserved-then-r-ne0 c =
     let p = c.put_refused-put-then-r-ne0.ensures in
     goes_step_refused v.invariant c.loop-out-test.true n.result n.ensures c.if-found-from.false w.result w.ensures.value
     _ _ c.in-Step.is x.result x.ensures c.source_of.result c.source_of.ensures y.result y.ensures s.result s.ensures o.result o.ensures
-    c.if-r-ne0.true _ _ p.wrote p.upper_bound
+    c.if-r-ne0.true _ _ p.wrote p.near
 
 pub reach-done-requires-clause-pow : goal.reach-done-requires-clause-pow
 reach-done-requires-clause-pow c =
@@ -63,8 +63,8 @@ reach-done-requires-clause-pow c =
     _ _ c.in-Step.is x.result x.ensures c.source_of.result c.source_of.ensures y.result y.ensures s.result s.ensures o.result o.ensures
     c.if-r-ne0.false).0
 
-pub reach-done-requires-clause-capacity_in_bounds : goal.reach-done-requires-clause-capacity_in_bounds
-reach-done-requires-clause-capacity_in_bounds c =
+pub reach-done-requires-clause-within : goal.reach-done-requires-clause-within
+reach-done-requires-clause-within c =
     let v = c.loop-out in let n = c.next_line-found in let w = c.wrapping_add_u64-line in let x = c.index-x-in-Step in let y = c.index-y in let s = c.context_of-s in let o = c.look_up-r in
     (site_ready v.invariant c.loop-out-test.true n.result n.ensures c.if-found-from.false w.result w.ensures.value
     _ _ c.in-Step.is x.result x.ensures c.source_of.result c.source_of.ensures y.result y.ensures s.result s.ensures o.result o.ensures
@@ -92,13 +92,13 @@ loop-out-preserved-in-Step c =
     goes_step_answered v.invariant c.loop-out-test.true n.result n.ensures c.if-found-from.false w.result w.ensures.value
     _ _ c.in-Step.is x.result x.ensures c.source_of.result c.source_of.ensures y.result y.ensures s.result s.ensures o.result o.ensures
     c.if-r-ne0.false d.result _ d.ensures a.result a.ensures q.result q.ensures (sym c.is_pending.ensures ∙ c.if-is_pending.false)
-    _ _ p.wrote p.upper_bound
+    _ _ p.wrote p.near
 
 pub loop-out-preserved : goal.loop-out-preserved
 loop-out-preserved c =
     let v = c.loop-out in let n = c.next_line-found in let w = c.wrapping_add_u64-line in let p = c.put_refused-put-in-Machine.ensures in
     goes_other v.invariant c.loop-out-test.true n.result n.ensures c.if-found-from.false w.result w.ensures.value
-    c.in-Machine.is _ _ p.wrote p.upper_bound
+    c.in-Machine.is _ _ p.wrote p.near
 
 pub bounds-m-z : goal.bounds-m-z
 bounds-m-z c =

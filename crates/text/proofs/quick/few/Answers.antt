@@ -1,5 +1,5 @@
 -- A byte that is at most 9 above that of 0 is a digit, and one digit or two make the number.
-use Rattle.std.proofs.Common.{◌≤◌, arith}
+use Rattle.std.proofs.Common.{arith}
 use Rattle.text.proofs.Standing.{few_one, few_two}
 use Rattle.text.proofs.quick.few.Goals as goal
 

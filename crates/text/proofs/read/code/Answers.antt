@@ -1,5 +1,5 @@
 use Rattle.std.proofs.Common.{sym, ◌∙◌, arith}
-use Rattle.text.proofs.Codes.{coded, coded_long, code_end, code_past, code_more}
+use Rattle.text.proofs.Codes.{coded, coded_long, code_end, code_past}
 use Rattle.text.proofs.read.code.Goals as goal
 
 pub returns-then-acc-ge72057594037927936 : goal.returns-then-acc-ge72057594037927936

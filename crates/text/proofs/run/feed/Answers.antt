@@ -8,7 +8,7 @@ loop-fed-preserved c =
     let o = c.one_line-one.ensures in let t = c.many_lines-fed.ensures in let v = c.loop-fed.invariant in
     record {
       gets = gets_then (gets_then v.gets o.gets) t.gets;
-      cursor_is = t.run_value ∙ o.run_value ∙ v.cursor_is;
+      cursor_is = t.cursor_is ∙ o.cursor_is ∙ v.cursor_is;
       items_length = omega arith;
       out_length = omega arith;
     }
@@ -23,7 +23,7 @@ returns-then-out-fed-lt-ENOUGH-clause-feeds c =
     let v = c.loop-fed.invariant in let w = gets_whole v.gets (inl (omega arith)) _ refl in
     record { flow_is = w.0; cursor_is = v.cursor_is; used_is = w.1; wrote = w.2; room = v.gets.room }
 
-pub returns-then-out-fed-lt-ENOUGH-clause-used_nonzero : goal.returns-then-out-fed-lt-ENOUGH-clause-used_nonzero
-returns-then-out-fed-lt-ENOUGH-clause-used_nonzero c =
+pub returns-then-out-fed-lt-ENOUGH-clause-onward : goal.returns-then-out-fed-lt-ENOUGH-clause-onward
+returns-then-out-fed-lt-ENOUGH-clause-onward c =
     let v = c.loop-fed.invariant in let w = gets_whole v.gets (inl (omega arith)) _ refl in
     λ h k. rw w.1 (fed_some _ _ _ _ _ h k)

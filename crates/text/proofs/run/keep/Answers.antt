@@ -12,12 +12,12 @@ loop-i-preserved c =
       same = l.invariant.same ∙ kept_more l.line l.n _ l.i h l.invariant.length_is c.loop-i-test.true;
     }
 
-pub returns-after-loop-i-clause-held_value : goal.returns-after-loop-i-clause-held_value
-returns-after-loop-i-clause-held_value c =
+pub returns-after-loop-i-clause-line_is : goal.returns-after-loop-i-clause-line_is
+returns-after-loop-i-clause-line_is c =
     let l = c.loop-i in sym (l.invariant.same ∙ kept_all_lem (take l.n l.line) _ l.i (omega (arith, c.loop-i-test.false)))
 
-pub returns-then-n-eq-KEPT-clause-held_value : goal.returns-then-n-eq-KEPT-clause-held_value
-returns-then-n-eq-KEPT-clause-held_value c =
+pub returns-then-n-eq-KEPT-clause-line_is : goal.returns-then-n-eq-KEPT-clause-line_is
+returns-then-n-eq-KEPT-clause-line_is c =
     let l = c.loop-i in let e : l.n ≡ 121 = c.if-n-eq-KEPT.true in
     let k : length (take l.n l.line) ≡ 121 = length-take-le l.n l.line (omega (arith, e, l.invariant.length_is)) ∙ e in
     sym (l.invariant.same ∙ kept_full (take l.n l.line) _ k)

@@ -9,12 +9,12 @@ whole n = omega arith
 pub returns-then-end-piece-clause-gets : goal.returns-then-end-piece-clause-gets
 returns-then-end-piece-clause-gets c =
     let u = c.find-end in
-    line_part _ _ _ _ _ u.result _ c.requires.used_in_bounds c.requires.put_in_bounds u.ensures.index u.ensures.bound
-    c.keep-line.ensures.held_value c.if-end-piece.true
+    line_part _ _ _ _ _ u.result _ c.requires.within c.requires.room u.ensures.index u.ensures.bound
+    c.keep-line.ensures.line_is c.if-end-piece.true
 
 pub returns-clause-gets : goal.returns-clause-gets
 returns-clause-gets c =
     let u = c.find-end in let l = c.keep-line.result in let t = c.take-taken.ensures in
-    line_whole _ _ _ _ _ u.result _ c.requires.used_in_bounds c.requires.put_in_bounds u.ensures.index u.ensures.bound
-    c.keep-line.ensures.held_value c.if-end-piece.false _
+    line_whole _ _ _ _ _ u.result _ c.requires.within c.requires.room u.ensures.index u.ensures.bound
+    c.keep-line.ensures.line_is c.if-end-piece.false _
     (ap (λ (n : ℕ). take n l.held) (whole l.count)) _ _ _ t.state_is t.wrote t.near

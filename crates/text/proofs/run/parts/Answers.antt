@@ -16,8 +16,8 @@ pub loop-out-preserved : goal.loop-out-preserved
 loop-out-preserved c =
     let v = c.loop-out in let p = c.put_part-put.ensures in let n = c.part_after-at.ensures in let r = c.resting_of-resting in
     record {
-      gets = λ s e. rw n.put_value (parts_then (v.invariant.gets s e) (omega arith) (omega (arith, e))
-          r.result r.ensures _ _ p.wrote p.upper_bound _ n.part_value);
-      within = omega (arith, n.put_value, p.upper_bound);
+      gets = λ s e. rw n.put_is (parts_then (v.invariant.gets s e) (omega arith) (omega (arith, e))
+          r.result r.ensures _ _ p.wrote p.near _ n.cursor_is);
+      within = omega (arith, n.put_is, p.near);
       length_is = omega arith;
     }

@@ -13,11 +13,11 @@ pub returns : goal.returns
 returns c =
     let p = c.parts-at in let e = c.last_line-fed.ensures in
     let z = sym c.is_clear.ensures ∙ c.if-not-is_clear.false in
-    let w = rests_parts _ _ _ _ _ _ e.flow_is e.wrote z _ _ e.cursor_is _ _ p.ensures.gets_parts p.ensures.fact in
+    let w = rests_parts _ _ _ _ _ _ e.flow_is e.wrote z _ _ e.cursor_is _ _ p.ensures.gets_parts p.ensures.over in
     record {
       flow_is = w.flow_is;
       cursor_is = w.cursor_is;
       wrote = w.wrote;
-      room = rests_room _ _ _ _ _ _ e.flow_is e.wrote z _ _ e.cursor_is _ _ p.ensures.gets_parts p.ensures.fact;
-      done_is = ap (λ (q : ℕ). leb q p.result.queue) c.queues_of.ensures.value ∙ w.done_is;
+      room = rests_room _ _ _ _ _ _ e.flow_is e.wrote z _ _ e.cursor_is _ _ p.ensures.gets_parts p.ensures.over;
+      done_is = ap (λ (q : ℕ). leb q p.result.queue) c.queues_of.ensures.number_is ∙ w.done_is;
     }

@@ -3,6 +3,6 @@ use Rattle.std.proofs.Common.{refl}
 use Rattle.tables.specs.Step.{opening, open_refusal}
 use Rattle.text.proofs.run.start.Goals as goal
 
-pub returns-clause-value : goal.returns-clause-value
+pub returns-clause-flow_is : goal.returns-clause-flow_is
 unfolding opening open_refusal
-returns-clause-value c = rw (c.open-opened.ensures, c.start.ensures) refl
+returns-clause-flow_is c = rw (c.open-opened.ensures, c.start.ensures) refl
