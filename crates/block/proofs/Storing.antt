@@ -83,8 +83,8 @@ module _ (m : Machine) where
     at_head : (j : ℕ) → j < front → get_or ys j 0 ≡ get_or head j 0
     at_head j h = let e : j ≡ 0 + j = omega arith in ap (λ (i : ℕ). get_or ys i 0) e ∙ in_stretch ys 0 front j h ∙ ap (λ (l : List ℕ). get_or l j 0) s.head_is
 
-    is_block : is_block most ys ≡ true
-    is_block =
+    is_block_lem : is_block most ys ≡ true
+    is_block_lem =
         sym (by_parties most ys (omega (arith, s.long)) (at_head 0 (omega arith)) (at_head 1 (omega arith)))
         ∙ ap (λ (x : ℕ). leb x most) (at_head 2 (omega arith)) ∙ le-leb m.parties most few
 
@@ -125,7 +125,7 @@ module _ (m : Machine) where
     unfolding machine_of
     stored_all = λ i. record {
       machine = record {
-        parties = (pick_yes (is_block most ys) (get_or ys 2 0) 0 is_block ∙ at_head 2 (omega arith)) i;
+        parties = (pick_yes (is_block most ys) (get_or ys 2 0) 0 is_block_lem ∙ at_head 2 (omega arith)) i;
         party = party_table i;
         queue = queue_table i;
       };
