@@ -1,0 +1,4 @@
+use Rattle.block.proofs.entry.put_back.Goals as goal
+
+pub returns : goal.returns
+returns c = ?
