@@ -3,18 +3,17 @@ use Prim.Native.Nat.{ℕ, zero, suc, ◌+◌, ◌≤◌, ◌<◌}
 use mathlib.Core.Path.{◌≡◌, refl, sym, ap, subst, ◌∙◌}
 use mathlib.Core.Bool.{true}
 use mathlib.Core.List.{List}
-use mathlib.Core.Logic.{◌⊎◌, inl, inr, ⊎_elim}
+use mathlib.Core.Logic.{inl, inr, ⊎_elim}
 use native.Mathlib.Omega.{arith}
 use borrow.Author.Tests.{le-leb}
 use lib.Dec.{leb}
 use lib.ListN.{length, get_or, drop}
 use lib.Seq.{ext_get_or}
 use Rattle.words.specs.Edition.{width}
-use Rattle.words.specs.Word.{pick}
 use Rattle.tables.specs.declared.state.Kind.TheVariants as Kind
 use Rattle.tables.specs.declared.state.Machine.{Machine}
 use Rattle.tables.specs.Machine.{most, party_at, queue_at, idle_party, zero_queue, stretch, restretched}
-use Rattle.tables.proofs.Bases.{restretched_length, stretch_length, stretch_back}
+use Rattle.tables.proofs.Bases.{stretch_length, stretch_back}
 use Rattle.tables.proofs.Bools.{pick_yes, equal_or_not}
 use Rattle.block.specs.Block.{reply_base, reply_size, party_size, queue_size, size, party_base, queue_base, party_from, queue_from}
 use Rattle.block.specs.Block.{party_in, queue_in, table, no_reply, seal_words, head_words, is_block, machine_of}
