@@ -20,7 +20,6 @@ use Rattle.tables.proofs.Bools.{pick_yes, pick_no}
 use Rattle.tables.proofs.Refused.{begin_refusal_lem, begin_unchanged, step_refusal_lem, step_unchanged}
 use Rattle.tables.proofs.Alone.{alone_refusal_lem, alone_unchanged}
 use Rattle.tables.specs.declared.call.Act.{Act}
-use Rattle.tables.specs.declared.call.Act.TheVariants as Act
 use Rattle.machine.specs.declared.desk.Desk.{Desk}
 use Rattle.machine.specs.declared.desk.Stretches.{Stretches}
 use Rattle.machine.specs.declared.desk.Turn.{Turn}

@@ -45,18 +45,18 @@ module _ (w most : ℕ) (xs : List ℕ) where
 
   -- a queue below the parties is a block's
   module _ {n q : ℕ} (e : n ≡ mm.parties) (h : q < n) where
-    is_block : is_block most xs ≡ true
-    is_block = go (is_block most xs) refl
+    is_block_lem : is_block most xs ≡ true
+    is_block_lem = go (is_block most xs) refl
       where
         go : (t : Bool) → is_block most xs ≡ t → is_block most xs ≡ true
         go true b = b
         go false b = absurd (omega (arith, parties_no b))
 
     pub block_there : size most ≤ length xs
-    block_there = block_long most xs is_block
+    block_there = block_long most xs is_block_lem
 
     pub queue_there : q < most
-    queue_there = omega (arith, parties_yes is_block, block_few most xs is_block)
+    queue_there = omega (arith, parties_yes is_block_lem, block_few most xs is_block_lem)
 
     inside : ltb q mm.parties ≡ true
     inside = lt-ltb q mm.parties (omega arith)

@@ -1,5 +1,5 @@
 -- The machine that a block is read as, after a part of the block was put anew: a party, a queue, or the last answer.
-use Prim.Native.Nat.{ℕ, ◌+◌, ◌*◌, ◌≤◌, ◌<◌}
+use Prim.Native.Nat.{ℕ, ◌+◌, ◌≤◌, ◌<◌}
 use mathlib.Core.Path.{◌≡◌, sym, ap, ◌∙◌}
 use mathlib.Core.List.{List}
 use mathlib.Core.Logic.{◌⊎◌, inl, inr, ⊎_elim}
@@ -15,7 +15,6 @@ use Rattle.tables.proofs.Bases.{restretched_length, stretch_back, stretch_before
 use Rattle.tables.proofs.Bools.{less_or_not}
 use Rattle.block.specs.Block.{seal, layout, reply_base, reply_size, party_size, queue_size, party_base, queue_base, size, party_from, queue_from, party_in, queue_in, table, is_block, machine_of}
 use Rattle.block.proofs.Words.{first_in_stretch, after_kept}
-use Rattle.block.proofs.Sealed.{block_long}
 use Rattle.block.proofs.Tables.{table_same, one_changed}
 
 -- The block ys is xs with n words from `base` on replaced, none of them among the first three.

@@ -14,7 +14,7 @@ use Rattle.tables.specs.Step.{opening}
 use Rattle.tables.proofs.Bools.{pick_yes, pick_no, equal_or_not}
 use Rattle.tables.proofs.Refused.{opening_if, open_needs}
 use Rattle.tables.specs.Step.{every_kind}
-use Rattle.block.specs.Block.{size, table, kind_of}
+use Rattle.block.specs.Block.{size, kind_of}
 use Rattle.block.specs.Contents.{Contents, contents_in}
 use Rattle.block.specs.Opening.{first_of, asked, LeftAt, left_at, fresh, opened_as, opened}
 use Rattle.block.proofs.Tables.{table_length, entry}

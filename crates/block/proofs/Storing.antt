@@ -3,18 +3,17 @@ use Prim.Native.Nat.{ℕ, zero, suc, ◌+◌, ◌≤◌, ◌<◌}
 use mathlib.Core.Path.{◌≡◌, refl, sym, ap, subst, ◌∙◌}
 use mathlib.Core.Bool.{true}
 use mathlib.Core.List.{List}
-use mathlib.Core.Logic.{◌⊎◌, inl, inr, ⊎_elim}
+use mathlib.Core.Logic.{inl, inr, ⊎_elim}
 use native.Mathlib.Omega.{arith}
 use borrow.Author.Tests.{le-leb}
 use lib.Dec.{leb}
 use lib.ListN.{length, get_or, drop}
 use lib.Seq.{ext_get_or}
 use Rattle.words.specs.Edition.{width}
-use Rattle.words.specs.Word.{pick}
 use Rattle.tables.specs.declared.state.Kind.TheVariants as Kind
 use Rattle.tables.specs.declared.state.Machine.{Machine}
 use Rattle.tables.specs.Machine.{most, party_at, queue_at, idle_party, zero_queue, stretch, restretched}
-use Rattle.tables.proofs.Bases.{restretched_length, stretch_length, stretch_back}
+use Rattle.tables.proofs.Bases.{stretch_length, stretch_back}
 use Rattle.tables.proofs.Bools.{pick_yes, equal_or_not}
 use Rattle.block.specs.Block.{reply_base, reply_size, party_size, queue_size, size, party_base, queue_base, party_from, queue_from}
 use Rattle.block.specs.Block.{party_in, queue_in, table, no_reply, seal_words, head_words, is_block, machine_of}
@@ -83,8 +82,8 @@ module _ (m : Machine) where
     at_head : (j : ℕ) → j < front → get_or ys j 0 ≡ get_or head j 0
     at_head j h = let e : j ≡ 0 + j = omega arith in ap (λ (i : ℕ). get_or ys i 0) e ∙ in_stretch ys 0 front j h ∙ ap (λ (l : List ℕ). get_or l j 0) s.head_is
 
-    is_block : is_block most ys ≡ true
-    is_block =
+    is_block_lem : is_block most ys ≡ true
+    is_block_lem =
         sym (by_parties most ys (omega (arith, s.long)) (at_head 0 (omega arith)) (at_head 1 (omega arith)))
         ∙ ap (λ (x : ℕ). leb x most) (at_head 2 (omega arith)) ∙ le-leb m.parties most few
 
@@ -125,7 +124,7 @@ module _ (m : Machine) where
     unfolding machine_of
     stored_all = λ i. record {
       machine = record {
-        parties = (pick_yes (is_block most ys) (get_or ys 2 0) 0 is_block ∙ at_head 2 (omega arith)) i;
+        parties = (pick_yes (is_block most ys) (get_or ys 2 0) 0 is_block_lem ∙ at_head 2 (omega arith)) i;
         party = party_table i;
         queue = queue_table i;
       };

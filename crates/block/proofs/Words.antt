@@ -1,6 +1,6 @@
 -- Words read where they stand in a block, and words filed and read back.
 use Prim.Native.Nat.{ℕ, ◌+◌, ◌≤◌, ◌<◌, ◌^◌}
-use mathlib.Core.Path.{◌≡◌, refl, sym, ap, ap₂, ◌∙◌}
+use mathlib.Core.Path.{◌≡◌, refl, sym, ap, ◌∙◌}
 use mathlib.Core.List.{List, [], ◌∷◌, ◌++◌, append_assoc}
 use native.Mathlib.Numerals.{add-one}
 use native.Mathlib.Omega.{arith}
@@ -11,7 +11,6 @@ use Rattle.words.specs.Word.{packed, high, low, Unpacked}
 use Rattle.words.proofs.Laws.{high_packed, low_packed}
 use Rattle.tables.specs.declared.state.Drain.{Drain}
 use Rattle.tables.specs.declared.state.Kind.{Kind}
-use Rattle.tables.specs.declared.state.Kind.TheVariants as Kind
 use Rattle.tables.specs.declared.state.Queue.{Queue}
 use Rattle.tables.specs.Machine.{stretch, restretched}
 use Rattle.tables.proofs.Bases.{restretched_length, stretch_after}

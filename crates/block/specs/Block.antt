@@ -1,17 +1,16 @@
 -- Where the words of a machine stand in a lent slice, and the machine that any words are read as.
 -- w is the width, `most` the party limit.
-use Rattle.std.specs.Prelude.{ℕ, zero, suc, ◌+◌, ◌*◌, Bool, List, [], ◌∷◌, ◌++◌, ltb, leb, eqb, length, get_or, replicate}
+use Rattle.std.specs.Prelude.{ℕ, zero, suc, ◌+◌, ◌*◌, Bool, List, [], ◌∷◌, ◌++◌, leb, eqb, length, get_or, replicate}
 use Rattle.words.specs.Word.{pick, packed, high, low}
 use Rattle.tables.specs.declared.state.Drain.{Drain}
 use Rattle.tables.specs.declared.state.Kind.{Kind}
-use Rattle.tables.specs.declared.state.Kind.TheVariants as Kind
 use Rattle.tables.specs.declared.state.Machine.{Machine}
 use Rattle.tables.specs.declared.state.Party.{Party}
 use Rattle.tables.specs.declared.state.Queue.{Queue}
 use Rattle.tables.specs.Machine.{stretch}
 use Rattle.tables.specs.Step.{andb}
 use Rattle.block.specs.declared.PlaceWords.{PlaceWords}
-use Rattle.block.specs.PlaceWords.{call_words, place_words, words_of, place_read}
+use Rattle.block.specs.PlaceWords.{call_words, place_words, place_read}
 
 -- The first word of every block, by which it is told from other words: "ragnuloi" in ASCII.
 abbrev pub seal : ℕ

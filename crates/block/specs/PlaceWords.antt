@@ -1,34 +1,21 @@
 -- A place in numbers: how each is written, and what any numbers are read as. proofs/Cells.antt shows that what is written is read back.
-use Rattle.std.specs.Prelude.{ℕ, ◌-◌, ◌^◌, Bool, true, false, ltb, eqb}
+use Rattle.std.specs.Prelude.{ℕ, ◌-◌, ◌^◌, Bool, false, ltb, eqb}
 use Rattle.words.specs.Word.{pick, orb, position}
 use Rattle.tables.specs.declared.call.Rule.{Rule}
-use Rattle.tables.specs.declared.call.Rule.TheVariants as Rule
 use Rattle.tables.specs.declared.place.BookPlace.{BookPlace}
-use Rattle.tables.specs.declared.place.BookPlace.TheVariants as BookPlace
 use Rattle.tables.specs.declared.place.BookedTokens.{BookedTokens}
 use Rattle.tables.specs.declared.place.BookingCall.{BookingCall}
-use Rattle.tables.specs.declared.place.BookingCall.TheVariants as BookingCall
 use Rattle.tables.specs.declared.place.ClosePlace.{ClosePlace}
-use Rattle.tables.specs.declared.place.ClosePlace.TheVariants as ClosePlace
 use Rattle.tables.specs.declared.place.ClosingCall.{ClosingCall}
-use Rattle.tables.specs.declared.place.ClosingCall.TheVariants as ClosingCall
 use Rattle.tables.specs.declared.place.Destination.{Destination}
 use Rattle.tables.specs.declared.place.FifoPlace.{FifoPlace}
-use Rattle.tables.specs.declared.place.FifoPlace.TheVariants as FifoPlace
 use Rattle.tables.specs.declared.place.LifoPlace.{LifoPlace}
-use Rattle.tables.specs.declared.place.LifoPlace.TheVariants as LifoPlace
 use Rattle.tables.specs.declared.place.MovePlace.{MovePlace}
-use Rattle.tables.specs.declared.place.MovePlace.TheVariants as MovePlace
 use Rattle.tables.specs.declared.place.OwnPlace.{OwnPlace}
-use Rattle.tables.specs.declared.place.OwnPlace.TheVariants as OwnPlace
 use Rattle.tables.specs.declared.place.OwnerCall.{OwnerCall}
-use Rattle.tables.specs.declared.place.OwnerCall.TheVariants as OwnerCall
 use Rattle.tables.specs.declared.place.Place.{Place}
-use Rattle.tables.specs.declared.place.Place.TheVariants as Place
 use Rattle.tables.specs.declared.place.RoomCall.{RoomCall}
-use Rattle.tables.specs.declared.place.RoomCall.TheVariants as RoomCall
 use Rattle.tables.specs.declared.place.Transfer.{Transfer}
-use Rattle.tables.specs.declared.place.Transfer.TheVariants as Transfer
 use Rattle.tables.specs.declared.place.TransferCall.{TransferCall}
 use Rattle.tables.specs.Step.{andb}
 use Rattle.block.specs.declared.CallWords.{CallWords}

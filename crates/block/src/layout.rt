@@ -96,6 +96,7 @@ fn drain_at(block: &[u64], at: usize) -> Drain
     }
 }
 
+#[tactic(auto, unfolding(crate::specs::Block::party_from))]
 pub fn party_at(block: &[u64], i: usize) -> Party
     requires i_lt_most { i < most }
     requires most_in_bounds { B.size most ≤ length block.now }

@@ -72,6 +72,7 @@ fn destination_of(c: PlaceWords) -> Destination
     }
 }
 
+#[tactic(auto, unfolding(crate::specs::PlaceWords::booking_of))]
 fn booking_of(c: PlaceWords) -> BookingCall
     ensures { result ≡ C.booking_of c }
 {
@@ -97,6 +98,7 @@ fn booked_of(c: PlaceWords) -> BookedTokens
     }
 }
 
+#[tactic(auto, unfolding(crate::specs::PlaceWords::closing_of))]
 fn closing_of(w: CallWords, count: u32) -> ClosingCall
     ensures { result ≡ C.closing_of w count }
 {
@@ -116,6 +118,7 @@ fn closing_of(w: CallWords, count: u32) -> ClosingCall
     }
 }
 
+#[tactic(auto, unfolding(crate::specs::PlaceWords::lifo_of))]
 fn lifo_of(c: PlaceWords) -> LifoPlace
     ensures { result ≡ C.lifo_of c }
 {
@@ -143,6 +146,7 @@ fn lifo_of(c: PlaceWords) -> LifoPlace
     }
 }
 
+#[tactic(auto, unfolding(crate::specs::PlaceWords::fifo_of))]
 fn fifo_of(c: PlaceWords) -> FifoPlace
     ensures { result ≡ C.fifo_of c }
 {
@@ -167,6 +171,7 @@ fn fifo_of(c: PlaceWords) -> FifoPlace
     }
 }
 
+#[tactic(auto, unfolding(crate::specs::PlaceWords::own_of))]
 fn own_of(c: PlaceWords) -> OwnPlace
     ensures { result ≡ C.own_of c }
 {
@@ -198,6 +203,7 @@ fn own_of(c: PlaceWords) -> OwnPlace
     }
 }
 
+#[tactic(auto, unfolding(crate::specs::PlaceWords::book_of))]
 fn book_of(c: PlaceWords) -> BookPlace
     ensures { result ≡ C.book_of c }
 {
@@ -223,6 +229,7 @@ fn book_of(c: PlaceWords) -> BookPlace
     }
 }
 
+#[tactic(auto, unfolding(crate::specs::PlaceWords::move_of))]
 fn move_of(c: PlaceWords) -> MovePlace
     ensures { result ≡ C.move_of c }
 {
@@ -246,6 +253,7 @@ fn move_of(c: PlaceWords) -> MovePlace
     }
 }
 
+#[tactic(auto, unfolding(crate::specs::PlaceWords::close_of))]
 fn close_of(c: PlaceWords) -> ClosePlace
     ensures { result ≡ C.close_of c }
 {
@@ -257,6 +265,7 @@ fn close_of(c: PlaceWords) -> ClosePlace
     }
 }
 
+#[tactic(auto, unfolding(crate::specs::PlaceWords::place_of))]
 fn place_of(c: PlaceWords) -> Place
     ensures { result ≡ C.place_of c }
 {
@@ -331,6 +340,7 @@ fn close_known(row: u64, tag: u64) -> bool
     both(row < 3, either(between(3, 5, tag), between(6, 8, tag)))
 }
 
+#[tactic(auto, unfolding(crate::specs::PlaceWords::known))]
 fn known(c: PlaceWords) -> bool
     ensures { result ≡ C.known c }
 {
@@ -361,6 +371,7 @@ fn nobodys() -> Place
     )
 }
 
+#[tactic(auto, unfolding(crate::specs::PlaceWords::place_read))]
 pub fn place(c: PlaceWords) -> Place
     ensures { result ≡ C.place_read c }
 {

@@ -40,6 +40,7 @@ fn effect_words(e: Effect) -> [u64; 4]
     [e.party, e.queue, byte(row.number), value_of(values)]
 }
 
+#[tactic(auto, unfolding(crate::specs::Reply::reply_words))]
 pub fn reply_words(r: Reply) -> [u64; REPLY_SIZE]
     ensures { result ≡ R.reply_words r }
 {

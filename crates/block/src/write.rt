@@ -365,6 +365,7 @@ fn close(call: ClosingCall, place: ClosePlace) -> PlaceWords
     }
 }
 
+#[tactic(auto, unfolding(crate::specs::PlaceWords::words_of))]
 pub fn place(place: Place) -> PlaceWords
     ensures { result ≡ C.words_of place }
 {

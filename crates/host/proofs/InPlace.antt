@@ -11,8 +11,8 @@ use mathlib.Core.List.{[], ◌∷◌, List}
 use lib.Dec.{T}
 use lib.ListN.{length}
 use seplogic.Ra.Ura.{Ura}
-use seplogic.Ra.TreeShare.{full_share}
-use mir.Syntax.{Name, Sym, named, erased, mut, w64, Ty, ty_int, ty_ref, ty_struct, tcons, tnil, deref, field, place, copy, rv_opd, addr_of, aggregate, seq, assign, call, return, value_local, local, Fn}
+use base.Fraction.{full_share}
+use mir.Syntax.{Callee, Sym, named, erased, mut, w64, Ty, ty_int, ty_ref, ty_struct, tcons, tnil, deref, field, place, copy, rv_opd, addr_of, aggregate, seq, assign, call, return, value_local, local, Fn}
 use mir.Val.{Val, vint, vptr, vstruct, vcons, vnil, WT, has_ty}
 use base.Logic.{SProp, ent, sep}
 use base.Fml.{GName, Lft, Share, ftrue, flft, fobs, fbor, fat}
@@ -73,10 +73,12 @@ flat_enum E L few pl lw = record {
 }
 
 -- f is the function by value, ν the name of the struct that it returns, π the machine's type as a reference names it; τ, β and ι are the machine, the reply and the act
-abbrev pub entry : Name → Sym → Ty → Ty → Ty → Ty → Fn
+abbrev pub entry : Callee → Sym → Ty → Ty → Ty → Ty → Fn
 entry f ν π τ β ι = record {
   lifetimes = 2;
   outlives = [];
+  ty_params = [];
+  givens = 0;
   params = 4;
   locals = local β value_local ∷ local (ty_ref (named 0) mut π) value_local ∷ local (slice_ty (ty_ref (named 1) mut (ty_int w64))) value_local ∷ local (ty_int w64) value_local ∷ local ι value_local
       ∷ local (ty_struct ν (tcons τ (tcons β tnil))) value_local ∷ local τ value_local ∷ local τ value_local ∷ local (ty_ref erased mut (ty_int w64)) value_local ∷ local
@@ -92,7 +94,7 @@ entry f ν π τ β ι = record {
 }
 
 module _ {S R B I : RattleType} {τ β ι : Ty} (FR : Flat R τ) (FB : Flat B β) (FI : Flat I ι) (one : S.Denot → R.Denot) (two : S.Denot → B.Denot) (P : Parted S R B FR FB one two)
-    (f : Name) (ν : Sym) (π : Ty) where
+    (f : Callee) (ν : Sym) (π : Ty) where
   abbrev σ : Ty
   σ = ty_struct ν (tcons τ (tcons β tnil))
 
@@ -121,7 +123,7 @@ module _ {S R B I : RattleType} {τ β ι : Ty} (FR : Flat R τ) (FB : Flat B β
 
     -- what there is once the function by value has returned v: its token, its result, and what it ensures
     abbrev Back : (S.Denot → SProp 𝓤) → Val → Item 𝓤
-    Back Ens v = later (some (λ (r : S.Denot). ((‵ (flft κ' q') ⊛ ‵ ftrue) ⊛ ‵ (S.own r (v ∷ []))) ⊛ raw (Ens r)))
+    Back Ens v = later (some (λ (r : S.Denot). ((‵ (flft κ' q') ⊛ ‵ ftrue) ⊛ ‵ (S.own_val r (v ∷ []))) ⊛ raw (Ens r)))
 
     -- what it ensures, as the items' last list and a fact
     abbrev Last : (S.Denot → List ℕ → Type 0) → S.Denot → Item 𝓤

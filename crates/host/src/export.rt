@@ -1,4 +1,5 @@
-// What a host in C or Rust links: numbers, slices, and the machine as a block of words that the host owns. docs/HOST.md has the table.
+// What a host in C or Rust calls: numbers, slices, and the machine as a block of words that the host owns. The crate `host_c` exports
+// each of these under its name. docs/HOST.md has the table.
 ghost use Rattle.std.specs.Prelude.{◌≡◌, List, ℕ, length, get_or};
 ghost use Rattle.words.specs.Edition.{width};
 ghost use Rattle.tables.specs.Machine.{most};
@@ -17,16 +18,14 @@ use tables::call::Act;
 const MALFORMED: u8 = 100;
 
 // How many 64-bit words a block has.
-#[unsafe(no_mangle)]
-pub extern "C" fn ragnulois_words() -> u64
+pub fn ragnulois_words() -> u64
     ensures { result ≡ B.size most }
 {
     SIZE as u64
 }
 
 // A fresh machine, or refusal 1, 7 or 8; kind 0 is LIFO, 1 FIFO. Opening writes no item.
-#[unsafe(no_mangle)]
-pub extern "C" fn ragnulois_open(
+pub fn ragnulois_open(
     block: &mut [u64],
     kind: u64,
     parties: u64,
@@ -42,8 +41,7 @@ pub extern "C" fn ragnulois_open(
 }
 
 // Begin a call: malformed, or refusal 1, 2, 3 or 5.
-#[unsafe(no_mangle)]
-pub extern "C" fn ragnulois_begin(
+pub fn ragnulois_begin(
     block: &mut [u64],
     items: &mut [u64],
     party: u64,
@@ -65,8 +63,7 @@ pub extern "C" fn ragnulois_begin(
 }
 
 // One step: malformed, or refusal 1, 2, 4 or 6.
-#[unsafe(no_mangle)]
-pub extern "C" fn ragnulois_step(
+pub fn ragnulois_step(
     block: &mut [u64],
     items: &mut [u64],
     party: u64,
@@ -86,13 +83,7 @@ pub extern "C" fn ragnulois_step(
 }
 
 // Run alone, up to a budget of steps: refusal 1, 2 or 4.
-#[unsafe(no_mangle)]
-pub extern "C" fn ragnulois_run_alone(
-    block: &mut [u64],
-    items: &mut [u64],
-    party: u64,
-    budget: u64,
-) -> u8
+pub fn ragnulois_run_alone(block: &mut [u64], items: &mut [u64], party: u64, budget: u64) -> u8
     ensures result_after { record { held = contents_in width most block.new; items = items.new; refusal = result }
         ≡ left width most (contents_in width most block.old) items.old party (Act.Alone budget) }
     ensures block_unchanged { (result ≡ 0 → ⊥) → block.new ≡ block.old }
@@ -101,40 +92,35 @@ pub extern "C" fn ragnulois_run_alone(
 }
 
 // The machine's parties; 0 where the words are no block.
-#[unsafe(no_mangle)]
-pub extern "C" fn ragnulois_parties(block: &[u64]) -> u64
+pub fn ragnulois_parties(block: &[u64]) -> u64
     ensures { result ≡ (B.machine_of width most block.now).parties }
 {
     block::look::parties(block)
 }
 
 // A word of a queue: 0 capacity, 1 pushes (LIFO's push count, FIFO's tail), 2 the packed heads, 3 the completed head; else 0.
-#[unsafe(no_mangle)]
-pub extern "C" fn ragnulois_word(block: &[u64], queue: u64, which: u64) -> u64
+pub fn ragnulois_word(block: &[u64], queue: u64, which: u64) -> u64
     ensures { result ≡ L.word_in width most block.now queue which }
 {
     block::look::word(block, queue, which)
 }
 
 // Word 0 to 16 of the last answer; else 0.
-#[unsafe(no_mangle)]
-pub extern "C" fn ragnulois_reply(block: &[u64], which: u64) -> u64
+pub fn ragnulois_reply(block: &[u64], which: u64) -> u64
     ensures { result ≡ L.reply_in most block.now which }
 {
     block::look::reply(block, which)
 }
 
 // How many tokens rest in a queue.
-#[unsafe(no_mangle)]
-pub extern "C" fn ragnulois_resting(block: &[u64], queue: u64) -> u64
+pub fn ragnulois_resting(block: &[u64], queue: u64) -> u64
     ensures { (xs : List ℕ) → result ≡ length (L.rest_in width most block.now xs queue) }
 {
     block::look::resting(block, queue)
 }
 
 // The i-th of them, head first; 0 where there is none.
-#[unsafe(no_mangle)]
-pub extern "C" fn ragnulois_token(block: &[u64], items: &[u64], queue: u64, i: u64) -> u64
+pub fn ragnulois_token(block: &[u64], items: &[u64], queue: u64, i: u64) -> u64
     ensures { result ≡ get_or (L.rest_in width most block.now items.now queue) i 0 }
 {
     block::look::token(block, items, queue, i)
