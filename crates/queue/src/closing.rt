@@ -3,7 +3,7 @@ ghost use Rattle.std.specs.Prelude.{◌≡◌};
 ghost use Rattle.words.specs.Edition.{width};
 ghost use Rattle.tables.specs.Row as Y;
 ghost use Rattle.tables.specs.Table as T;
-ghost use Rattle.tables.specs.Tables as All;
+ghost use Rattle.tables.specs.Tables as Ts;
 
 use super::row;
 use tables::access::{Access, Context, Next, Seen, Wanted};
@@ -39,7 +39,7 @@ fn answer_of(call: ClosingCall) -> Answer
 }
 
 fn was_closed(s: Context, call: ClosingCall, seen: Seen) -> Next
-    ensures { result ≡ All.was_closed s call seen }
+    ensures { result ≡ Ts.was_closed s call seen }
 {
     if seen.stored {
         row::ends(s, answer_of(call), Change::Closed)
@@ -58,7 +58,7 @@ fn was_closed(s: Context, call: ClosingCall, seen: Seen) -> Next
 }
 
 pub fn wants(call: ClosingCall, place: ClosePlace, s: Context) -> Wanted
-    ensures { result ≡ Y.wanted (All.close_row width s call place) }
+    ensures { result ≡ Y.wanted (Ts.close_row width s call place) }
 {
     match place {
         ClosePlace::StoreCompleted { head } => row::source(Access::StoreCompleted(head)),
@@ -75,7 +75,7 @@ pub fn wants(call: ClosingCall, place: ClosePlace, s: Context) -> Wanted
 
 pub fn advance(call: ClosingCall, place: ClosePlace, s: Context, seen: Seen) -> Next
     ensures { result
-        ≡ (All.close_row width s call place).after seen }
+        ≡ (Ts.close_row width s call place).after seen }
 {
     match place {
         ClosePlace::StoreCompleted { head: _ } => row::ends(s, answer_of(call), Change::Closed),
