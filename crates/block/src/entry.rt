@@ -22,11 +22,11 @@ use tables::call::Act;
 use tables::state::{MOST, Party, Queue};
 
 pub fn put_party(block: &mut [u64], i: usize, party: Party)
-    requires i_lt_most { i < most }
-    requires most_in_bounds { B.size most ≤ length block.old }
-    ensures block_after { block.new
+    requires within { i < most }
+    requires long { B.size most ≤ length block.old }
+    ensures block_is { block.new
         ≡ restretched (B.party_base i) B.party_size (B.party_words width (C.words_of party.place) party.drain) block.old }
-    ensures drain_value { B.party_from width (B.party_words width (C.words_of party.place) party.drain) ≡ party }
+    ensures reads_back { B.party_from width (B.party_words width (C.words_of party.place) party.drain) ≡ party }
 {
     let place = party.place;
     let drain = party.drain;
@@ -35,10 +35,10 @@ pub fn put_party(block: &mut [u64], i: usize, party: Party)
 }
 
 pub fn put_queue(block: &mut [u64], i: usize, queue: Queue)
-    requires i_lt_most { i < most }
-    requires most_in_bounds { B.size most ≤ length block.old }
-    ensures block_after { block.new ≡ restretched (B.queue_base most i) B.queue_size (B.queue_words width queue) block.old }
-    ensures queue_value { B.queue_from width (B.queue_words width queue) ≡ queue }
+    requires within { i < most }
+    requires long { B.size most ≤ length block.old }
+    ensures block_is { block.new ≡ restretched (B.queue_base most i) B.queue_size (B.queue_words width queue) block.old }
+    ensures reads_back { B.queue_from width (B.queue_words width queue) ≡ queue }
 {
     let words = layout::queue_words(queue);
     layout::put_words(block, QUEUES_BASE + QUEUE_SIZE * i, &words);
@@ -60,9 +60,9 @@ fn index(n: u64) -> usize
 }
 
 fn fine_at(block: &[u64], parties: u32, i: usize, queue: Queue) -> bool
-    requires i_lt_most { i < most }
-    requires most_in_bounds { B.size most ≤ length block.now }
-    requires queue_value { queue ≡ B.queue_in width most block.now i }
+    requires within { i < most }
+    requires long { B.size most ≤ length block.now }
+    requires own { queue ≡ B.queue_in width most block.now i }
     ensures { result ≡ S.fine_at width parties (B.party_in width block.now) (B.queue_in width most block.now) i }
 {
     let party = layout::party_at(block, i);
@@ -91,8 +91,8 @@ fn survey(block: &[u64], parties: u32, who: u64, from: u64) -> Survey
 }
 
 fn put_back(block: &mut [u64], x: usize, y: usize, t: Turn)
-    requires x_lt_most { (x < most) × (y < most) }
-    requires block_value { B.is_block most block.old ≡ true }
+    requires within { (x < most) × (y < most) }
+    requires good_block { B.is_block most block.old ≡ true }
     ensures { Hd.contents_in width most block.new
         ≡ Hd.changed (Hd.contents_in width most block.old)
         (D.put_back (B.machine_of width most block.old) x y t.desk) (Y.reply_words t.reply) }
@@ -110,9 +110,9 @@ fn put_back(block: &mut [u64], x: usize, y: usize, t: Turn)
 
 fn act_on(block: &mut [u64], items: &mut [u64], who: u64, act: Act) -> u8
     requires { B.is_block most block.old ≡ true }
-    ensures result_after { record { held = Hd.contents_in width most block.new; items = items.new; refusal = result }
+    ensures outcome { record { held = Hd.contents_in width most block.new; items = items.new; refusal = result }
         ≡ Hd.left width most (Hd.contents_in width most block.old) items.old who act }
-    ensures block_unchanged { (result ≡ 0 → ⊥) → block.new ≡ block.old }
+    ensures kept { (result ≡ 0 → ⊥) → block.new ≡ block.old }
 {
     let parties = block[2] as u32;
     let x = index(who);
@@ -145,9 +145,9 @@ fn act_on(block: &mut [u64], items: &mut [u64], who: u64, act: Act) -> u8
 
 // Begin, step or run alone, on any words, any items and any party number. A refusal changes no word.
 pub fn act(block: &mut [u64], items: &mut [u64], who: u64, act: Act) -> u8
-    ensures result_after { record { held = Hd.contents_in width most block.new; items = items.new; refusal = result }
+    ensures outcome { record { held = Hd.contents_in width most block.new; items = items.new; refusal = result }
         ≡ Hd.left width most (Hd.contents_in width most block.old) items.old who act }
-    ensures block_unchanged { (result ≡ 0 → ⊥) → block.new ≡ block.old }
+    ensures kept { (result ≡ 0 → ⊥) → block.new ≡ block.old }
 {
     if layout::is_block(block) {
         act_on(block, items, who, act)

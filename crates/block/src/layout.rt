@@ -98,8 +98,8 @@ fn drain_at(block: &[u64], at: usize) -> Drain
 
 #[tactic(auto, unfolding(crate::specs::Block::party_from))]
 pub fn party_at(block: &[u64], i: usize) -> Party
-    requires i_lt_most { i < most }
-    requires most_in_bounds { B.size most ≤ length block.now }
+    requires within { i < most }
+    requires long { B.size most ≤ length block.now }
     ensures { result ≡ B.party_in width block.now i }
 {
     let at = PARTIES_BASE + PARTY_SIZE * i;
@@ -112,8 +112,8 @@ pub fn party_at(block: &[u64], i: usize) -> Party
 }
 
 pub fn queue_at(block: &[u64], i: usize) -> Queue
-    requires i_lt_most { i < most }
-    requires most_in_bounds { B.size most ≤ length block.now }
+    requires within { i < most }
+    requires long { B.size most ≤ length block.now }
     ensures { result ≡ B.queue_in width most block.now i }
 {
     let at = QUEUES_BASE + QUEUE_SIZE * i;
@@ -141,9 +141,9 @@ pub fn put_words(block: &mut [u64], at: usize, part: &[u64])
 }
 
 pub fn party_words(cell: PlaceWords, drain: Drain) -> [u64; PARTY_SIZE]
-    ensures value { result ≡ B.party_words width cell drain }
-    ensures result_value { B.words_from width result ≡ cell }
-    ensures result_value_2 { B.drain_from width result ≡ drain }
+    ensures words_are { result ≡ B.party_words width cell drain }
+    ensures place_back { B.words_from width result ≡ cell }
+    ensures drain_back { B.drain_from width result ≡ drain }
 {
     let call = cell.call;
     [
@@ -162,8 +162,8 @@ pub fn party_words(cell: PlaceWords, drain: Drain) -> [u64; PARTY_SIZE]
 }
 
 pub fn queue_words(queue: Queue) -> [u64; QUEUE_SIZE]
-    ensures value { result ≡ B.queue_words width queue }
-    ensures result_value { B.queue_from width result ≡ queue }
+    ensures words_are { result ≡ B.queue_words width queue }
+    ensures queue_back { B.queue_from width result ≡ queue }
 {
     let kind = queue.kind;
     [

@@ -62,8 +62,8 @@ pub fn reply(block: &[u64], which: u64) -> u64
 }
 
 fn base_of(block: &[u64], n: usize) -> usize
-    requires n_le_most { n ≤ most }
-    requires most_in_bounds { B.size most ≤ length block.now }
+    requires few { n ≤ most }
+    requires long { B.size most ≤ length block.now }
     ensures { result ≡ base_of n (B.machine_of width most block.now).queue }
 {
     let mut base: usize = 0;
@@ -77,8 +77,8 @@ fn base_of(block: &[u64], n: usize) -> usize
 }
 
 fn resting_of(block: &[u64], q: usize) -> Resting
-    requires q_lt_most { q < most }
-    requires most_in_bounds { B.size most ≤ length block.now }
+    requires within { q < most }
+    requires long { B.size most ≤ length block.now }
     ensures { result ≡ resting_of width (B.machine_of width most block.now) q }
 {
     let queue = layout::queue_at(block, q);

@@ -70,9 +70,9 @@ pub fn open(
     positions: &[u32],
     items: &[u64],
 ) -> u8
-    ensures block_after { O.left_at result (Hd.contents_in width most block.new)
+    ensures block_is { O.left_at result (Hd.contents_in width most block.new)
         ≡ O.opened width most block.old kind parties requests.now positions.now (length items.now) }
-    ensures block_unchanged { O.IsUntouched most block.old kind → block.new ≡ block.old }
+    ensures kept { O.IsUntouched most block.old kind → block.new ≡ block.old }
 {
     if block.len() < SIZE {
         return 1;

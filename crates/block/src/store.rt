@@ -22,8 +22,8 @@ fn head_words(parties: u32) -> [u64; PARTIES_BASE]
 }
 
 pub fn store(block: &mut [u64], m: Machine)
-    requires most_in_bounds { B.size most ≤ length block.old }
-    requires parties_le_most { m.parties ≤ most }
+    requires long { B.size most ≤ length block.old }
+    requires few { m.parties ≤ most }
     ensures { Hd.contents_in width most block.new ≡ O.fresh (drop (B.size most) block.old) m }
 {
     let head = head_words(m.parties);

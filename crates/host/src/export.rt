@@ -33,9 +33,9 @@ pub fn ragnulois_open(
     positions: &[u32],
     items: &[u64],
 ) -> u8
-    ensures block_after { O.left_at result (contents_in width most block.new)
+    ensures block_is { O.left_at result (contents_in width most block.new)
         ≡ O.opened width most block.old kind parties requests.now positions.now (length items.now) }
-    ensures block_unchanged { O.IsUntouched most block.old kind → block.new ≡ block.old }
+    ensures kept { O.IsUntouched most block.old kind → block.new ≡ block.old }
 {
     block::open::open(block, kind, parties, requests, positions, items)
 }
@@ -50,9 +50,9 @@ pub fn ragnulois_begin(
     rule: u64,
     number: u64,
 ) -> u8
-    ensures result_after { record { held = contents_in width most block.new; items = items.new; refusal = result }
+    ensures outcome { record { held = contents_in width most block.new; items = items.new; refusal = result }
         ≡ N.begun width most (contents_in width most block.old) items.old party call source rule number }
-    ensures block_unchanged { (result ≡ 0 → ⊥) → block.new ≡ block.old }
+    ensures kept { (result ≡ 0 → ⊥) → block.new ≡ block.old }
 {
     if numbers::call_known(call, rule) {
         let begun = numbers::call_of(call, source, rule, number);
@@ -70,9 +70,9 @@ pub fn ragnulois_step(
     mark: u64,
     number: u64,
 ) -> u8
-    ensures result_after { record { held = contents_in width most block.new; items = items.new; refusal = result }
+    ensures outcome { record { held = contents_in width most block.new; items = items.new; refusal = result }
         ≡ N.stepped width most (contents_in width most block.old) items.old party mark number }
-    ensures block_unchanged { (result ≡ 0 → ⊥) → block.new ≡ block.old }
+    ensures kept { (result ≡ 0 → ⊥) → block.new ≡ block.old }
 {
     if mark < 4 {
         let with = numbers::mark_of(mark, number);
@@ -84,9 +84,9 @@ pub fn ragnulois_step(
 
 // Run alone, up to a budget of steps: refusal 1, 2 or 4.
 pub fn ragnulois_run_alone(block: &mut [u64], items: &mut [u64], party: u64, budget: u64) -> u8
-    ensures result_after { record { held = contents_in width most block.new; items = items.new; refusal = result }
+    ensures outcome { record { held = contents_in width most block.new; items = items.new; refusal = result }
         ≡ left width most (contents_in width most block.old) items.old party (Act.Alone budget) }
-    ensures block_unchanged { (result ≡ 0 → ⊥) → block.new ≡ block.old }
+    ensures kept { (result ≡ 0 → ⊥) → block.new ≡ block.old }
 {
     block::entry::act(block, items, party, Act::Alone(budget))
 }

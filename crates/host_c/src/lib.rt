@@ -31,9 +31,9 @@ pub extern "C" fn ragnulois_open(
     positions: &[u32],
     items: &[u64],
 ) -> u8
-    ensures block_after { O.left_at result (contents_in width most block.new)
+    ensures block_is { O.left_at result (contents_in width most block.new)
         ≡ O.opened width most block.old kind parties requests.now positions.now (length items.now) }
-    ensures block_unchanged { O.IsUntouched most block.old kind → block.new ≡ block.old }
+    ensures kept { O.IsUntouched most block.old kind → block.new ≡ block.old }
 {
     export::ragnulois_open(block, kind, parties, requests, positions, items)
 }
@@ -49,9 +49,9 @@ pub extern "C" fn ragnulois_begin(
     rule: u64,
     number: u64,
 ) -> u8
-    ensures result_after { record { held = contents_in width most block.new; items = items.new; refusal = result }
+    ensures outcome { record { held = contents_in width most block.new; items = items.new; refusal = result }
         ≡ N.begun width most (contents_in width most block.old) items.old party call source rule number }
-    ensures block_unchanged { (result ≡ 0 → ⊥) → block.new ≡ block.old }
+    ensures kept { (result ≡ 0 → ⊥) → block.new ≡ block.old }
 {
     export::ragnulois_begin(block, items, party, call, source, rule, number)
 }
@@ -65,9 +65,9 @@ pub extern "C" fn ragnulois_step(
     mark: u64,
     number: u64,
 ) -> u8
-    ensures result_after { record { held = contents_in width most block.new; items = items.new; refusal = result }
+    ensures outcome { record { held = contents_in width most block.new; items = items.new; refusal = result }
         ≡ N.stepped width most (contents_in width most block.old) items.old party mark number }
-    ensures block_unchanged { (result ≡ 0 → ⊥) → block.new ≡ block.old }
+    ensures kept { (result ≡ 0 → ⊥) → block.new ≡ block.old }
 {
     export::ragnulois_step(block, items, party, mark, number)
 }
@@ -80,9 +80,9 @@ pub extern "C" fn ragnulois_run_alone(
     party: u64,
     budget: u64,
 ) -> u8
-    ensures result_after { record { held = contents_in width most block.new; items = items.new; refusal = result }
+    ensures outcome { record { held = contents_in width most block.new; items = items.new; refusal = result }
         ≡ left width most (contents_in width most block.old) items.old party (Act.Alone budget) }
-    ensures block_unchanged { (result ≡ 0 → ⊥) → block.new ≡ block.old }
+    ensures kept { (result ≡ 0 → ⊥) → block.new ≡ block.old }
 {
     export::ragnulois_run_alone(block, items, party, budget)
 }

@@ -6,8 +6,8 @@ use Rattle.block.specs.Contents.{contents_in}
 use Rattle.block.proofs.Acting.{left_none}
 use Rattle.block.proofs.entry.act.Goals as goal
 
-pub returns-else-is_block-clause-result_after : goal.returns-else-is_block-clause-result_after
-returns-else-is_block-clause-result_after c =
+pub returns-else-is_block-clause-outcome : goal.returns-else-is_block-clause-outcome
+returns-else-is_block-clause-outcome c =
     let a = c.args in
     left_none width most a.block.now (sym c.is_block.ensures ∙ c.if-is_block.false) (contents_in width most a.block.now) refl
     a.items.now a.who a.act

@@ -14,14 +14,14 @@ bounds-block-2 c = omega (arith, block_long most c.args.block.now c.requires)
 pub overflow_cast-parties : goal.overflow_cast-parties
 overflow_cast-parties c = record { fits = omega (arith, block_few most c.args.block.now c.requires) }
 
-pub party_at-party-requires-clause-most_in_bounds : goal.party_at-party-requires-clause-most_in_bounds
-party_at-party-requires-clause-most_in_bounds c = block_long most c.args.block.now c.requires
+pub party_at-party-requires-clause-long : goal.party_at-party-requires-clause-long
+party_at-party-requires-clause-long c = block_long most c.args.block.now c.requires
 
-pub queue_at-own-requires-clause-most_in_bounds : goal.queue_at-own-requires-clause-most_in_bounds
-queue_at-own-requires-clause-most_in_bounds c = block_long most c.args.block.now c.requires
+pub queue_at-own-requires-clause-long : goal.queue_at-own-requires-clause-long
+queue_at-own-requires-clause-long c = block_long most c.args.block.now c.requires
 
-pub queue_at-source-requires-clause-most_in_bounds : goal.queue_at-source-requires-clause-most_in_bounds
-queue_at-source-requires-clause-most_in_bounds c = block_long most c.args.block.now c.requires
+pub queue_at-source-requires-clause-long : goal.queue_at-source-requires-clause-long
+queue_at-source-requires-clause-long c = block_long most c.args.block.now c.requires
 
 pub survey-s-requires : goal.survey-s-requires
 survey-s-requires c = block_long most c.args.block.now c.requires
@@ -33,8 +33,8 @@ turned-t-requires c =
     c.index-y.result c.index-x.ensures c.index-y.ensures c.party_at-party.ensures c.queue_at-own.ensures c.queue_at-source.ensures
     c.source_of-from.ensures c.survey-s.ensures c.passed-ok.ensures
 
-pub returns-then-refusal-eq0-clause-result_after : goal.returns-then-refusal-eq0-clause-result_after
-returns-then-refusal-eq0-clause-result_after c =
+pub returns-then-refusal-eq0-clause-outcome : goal.returns-then-refusal-eq0-clause-outcome
+returns-then-refusal-eq0-clause-outcome c =
     let a = c.args in let t = c.turned-t in let none = c.if-refusal-eq0.true in
     let e = act_is a.block.now c.requires (get_or a.block.now 2 0) refl a.items.now a.who c.source_of-from.result c.index-x.result
     c.index-y.result c.index-x.ensures c.index-y.ensures c.party_at-party.ensures c.queue_at-own.ensures c.queue_at-source.ensures
@@ -42,8 +42,8 @@ returns-then-refusal-eq0-clause-result_after c =
     (λ i. record { held = c.put_back.ensures i; items = t.new.items; refusal = none i })
     ∙ left_taken width most (contents_in width most a.block.now) a.items.now a.who a.act _ e none
 
-pub returns-else-refusal-eq0-clause-result_after : goal.returns-else-refusal-eq0-clause-result_after
-returns-else-refusal-eq0-clause-result_after c =
+pub returns-else-refusal-eq0-clause-outcome : goal.returns-else-refusal-eq0-clause-outcome
+returns-else-refusal-eq0-clause-outcome c =
     let a = c.args in let t = c.turned-t in
     let e = act_is a.block.now c.requires (get_or a.block.now 2 0) refl a.items.now a.who c.source_of-from.result c.index-x.result
     c.index-y.result c.index-x.ensures c.index-y.ensures c.party_at-party.ensures c.queue_at-own.ensures c.queue_at-source.ensures

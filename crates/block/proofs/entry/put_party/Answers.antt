@@ -7,14 +7,14 @@ use Rattle.block.specs.Block.{party_words, party_base}
 use Rattle.block.proofs.Seats.{party_back}
 use Rattle.block.proofs.entry.put_party.Goals as goal
 
-pub returns-clause-block_after : goal.returns-clause-block_after
-returns-clause-block_after c =
+pub returns-clause-block_is : goal.returns-clause-block_is
+returns-clause-block_is c =
     let a = c.args in let d = a.party.drain in
-    let e = c.party_words-words.ensures.value ∙ ap (λ (x : PlaceWords). party_words width x d) c.place.ensures in
+    let e = c.party_words-words.ensures.words_are ∙ ap (λ (x : PlaceWords). party_words width x d) c.place.ensures in
     c.put_words.ensures ∙ ap (λ (ws : List ℕ). restretched (party_base a.i) (length ws) ws a.block.now) e
 
-pub returns-clause-drain_value : goal.returns-clause-drain_value
-returns-clause-drain_value c =
+pub returns-clause-reads_back : goal.returns-clause-reads_back
+returns-clause-reads_back c =
     let a = c.args in let sw = c.party_words-words in
-    party_back width a.party sw.result c.place.result c.place.ensures sw.ensures.value sw.ensures.result_value
-    sw.ensures.result_value_2
+    party_back width a.party sw.result c.place.result c.place.ensures sw.ensures.words_are sw.ensures.place_back
+    sw.ensures.drain_back

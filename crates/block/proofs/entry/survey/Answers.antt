@@ -24,9 +24,9 @@ loop-i-preserved c =
     record {
       within = omega arith;
       few = v.invariant.few;
-      small = omega (arith, v.invariant.small, c.surveyed-s.ensures.total_bound);
+      small = omega (arith, v.invariant.small, c.surveyed-s.ensures.total_grows);
       surveyed =
-          c.surveyed-s.ensures.value
+          c.surveyed-s.ensures.survey_is
           ∙ survey_next width a.parties a.who a.from (party_in width a.block.now) (queue_in width most a.block.now) v.i
           v.invariant.surveyed c.fine_at-good.ensures c.queue_at-q.ensures;
     }

@@ -7,5 +7,5 @@ use Rattle.block.proofs.look.resting_of.Goals as goal
 pub returns : goal.returns
 returns c =
     let a = c.args in
-    resting_read width most a.block.now a.q (queue_read_lem width most a.block.now a.q c.requires.q_lt_most c.queue_at-queue.ensures)
+    resting_read width most a.block.now a.q (queue_read_lem width most a.block.now a.q c.requires.within c.queue_at-queue.ensures)
     c.base_of.ensures c.head_of-head.ensures c.tail_of-tail.ensures c.sub.ensures

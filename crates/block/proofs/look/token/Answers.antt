@@ -4,11 +4,11 @@ use Rattle.tables.specs.Machine.{most}
 use Rattle.block.proofs.Looks.{block_there, queue_there, token_there, token_past, token_none}
 use Rattle.block.proofs.look.token.Goals as goal
 
-pub resting_of-s-requires-clause-q_lt_most : goal.resting_of-s-requires-clause-q_lt_most
-resting_of-s-requires-clause-q_lt_most c = queue_there width most c.args.block.now c.parties.ensures c.if-queue-parties.true
+pub resting_of-s-requires-clause-within : goal.resting_of-s-requires-clause-within
+resting_of-s-requires-clause-within c = queue_there width most c.args.block.now c.parties.ensures c.if-queue-parties.true
 
-pub resting_of-s-requires-clause-most_in_bounds : goal.resting_of-s-requires-clause-most_in_bounds
-resting_of-s-requires-clause-most_in_bounds c = block_there width most c.args.block.now c.parties.ensures c.if-queue-parties.true
+pub resting_of-s-requires-clause-long : goal.resting_of-s-requires-clause-long
+resting_of-s-requires-clause-long c = block_there width most c.args.block.now c.parties.ensures c.if-queue-parties.true
 
 pub returns-then-i-count : goal.returns-then-i-count
 returns-then-i-count c =

@@ -4,11 +4,11 @@ use Rattle.tables.specs.Machine.{most}
 use Rattle.block.proofs.Looks.{block_there, queue_there, queue_read_lem, word_there, word_none}
 use Rattle.block.proofs.look.word.Goals as goal
 
-pub queue_at-requires-clause-i_lt_most : goal.queue_at-requires-clause-i_lt_most
-queue_at-requires-clause-i_lt_most c = queue_there width most c.args.block.now c.parties.ensures c.if-queue-parties.true
+pub queue_at-requires-clause-within : goal.queue_at-requires-clause-within
+queue_at-requires-clause-within c = queue_there width most c.args.block.now c.parties.ensures c.if-queue-parties.true
 
-pub queue_at-requires-clause-most_in_bounds : goal.queue_at-requires-clause-most_in_bounds
-queue_at-requires-clause-most_in_bounds c = block_there width most c.args.block.now c.parties.ensures c.if-queue-parties.true
+pub queue_at-requires-clause-long : goal.queue_at-requires-clause-long
+queue_at-requires-clause-long c = block_there width most c.args.block.now c.parties.ensures c.if-queue-parties.true
 
 pub returns-then-queue-parties : goal.returns-then-queue-parties
 returns-then-queue-parties c =

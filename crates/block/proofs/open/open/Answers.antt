@@ -7,25 +7,25 @@ use Rattle.tables.specs.Step.{every_kind}
 use Rattle.block.proofs.Opens.{opening_few, open_short, open_kindless, open_done}
 use Rattle.block.proofs.open.open.Goals as goal
 
-pub returns-then-block-lt-SIZE-clause-block_after : goal.returns-then-block-lt-SIZE-clause-block_after
-returns-then-block-lt-SIZE-clause-block_after c =
+pub returns-then-block-lt-SIZE-clause-block_is : goal.returns-then-block-lt-SIZE-clause-block_is
+returns-then-block-lt-SIZE-clause-block_is c =
     let a = c.args in
     open_short width most a.block.now a.kind a.parties a.requests.now a.positions.now (length a.items.now) c.if-block-lt-SIZE.true
 
-pub returns-then-kind-gt1-clause-block_after : goal.returns-then-kind-gt1-clause-block_after
-returns-then-kind-gt1-clause-block_after c =
+pub returns-then-kind-gt1-clause-block_is : goal.returns-then-kind-gt1-clause-block_is
+returns-then-kind-gt1-clause-block_is c =
     let a = c.args in
     open_kindless width most a.block.now a.kind a.parties a.requests.now a.positions.now (length a.items.now)
     c.if-block-lt-SIZE.false c.if-kind-gt1.true
 
-pub store-requires-clause-parties_le_most : goal.store-requires-clause-parties_le_most
-store-requires-clause-parties_le_most c =
+pub store-requires-clause-few : goal.store-requires-clause-few
+store-requires-clause-few c =
     subst (λ (n : ℕ). n ≤ most) (sym (ap (λ (o : Opened). o.machine.parties) c.open-o.ensures))
     (opening_few width most (every_kind most c.kind_of.result) c.asked-n.result c.first_requests.result c.first_positions.result
     (length c.args.items.now))
 
-pub returns-clause-block_after : goal.returns-clause-block_after
-returns-clause-block_after c =
+pub returns-clause-block_is : goal.returns-clause-block_is
+returns-clause-block_is c =
     let a = c.args in
     open_done width most a.block.now a.kind a.parties a.requests.now a.positions.now (length a.items.now) c.if-block-lt-SIZE.false
     c.if-kind-gt1.false c.kind_of.ensures c.asked-n.ensures c.first_requests.ensures c.first_positions.ensures c.open-o.ensures

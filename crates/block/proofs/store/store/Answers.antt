@@ -10,12 +10,12 @@ use Rattle.block.proofs.store.store.Goals as goal
 pub loop-i-preserved : goal.loop-i-preserved
 loop-i-preserved c =
     let a = c.args in let v = c.loop-i in let p = c.put_party in let q = c.put_queue in let t = c.loop-i-test.true in
-    let n : size most ≤ length v.block = omega (arith, c.requires.most_in_bounds, v.invariant.stored.long, c.put_words.auto.block) in
+    let n : size most ≤ length v.block = omega (arith, c.requires.long, v.invariant.stored.long, c.put_words.auto.block) in
     record {
       within = omega (arith, t);
       stored =
-          stored_more a.m v.invariant.stored t (party_files v.i t n refl p.ensures.block_after)
-          (queue_files v.i t (omega (arith, n, p.auto.block)) refl q.ensures.block_after) p.ensures.drain_value q.ensures.queue_value;
+          stored_more a.m v.invariant.stored t (party_files v.i t n refl p.ensures.block_is)
+          (queue_files v.i t (omega (arith, n, p.auto.block)) refl q.ensures.block_is) p.ensures.reads_back q.ensures.reads_back;
     }
 
 pub returns : goal.returns
@@ -23,8 +23,8 @@ returns c =
     let m = c.args.m in let v = c.loop-i in let w = c.put_words in
     let e : v.i ≡ most = omega arith in
     stored_all m (subst (λ (i : ℕ). Stored m w.new.block i v.block) e v.invariant.stored)
-    (omega (arith, c.requires.most_in_bounds, w.auto.block)) c.requires.parties_le_most (parties_many m c.well_formed.1.0)
+    (omega (arith, c.requires.long, w.auto.block)) c.requires.few (parties_many m c.well_formed.1.0)
     (queues_many m c.well_formed.1.0)
     ∙ ap (λ (l : List ℕ). fresh l m)
-    (beyond_head m c.args.block.now w.new.block c.requires.most_in_bounds
+    (beyond_head m c.args.block.now w.new.block c.requires.long
     (w.ensures ∙ ap (λ (ws : List ℕ). restretched 0 (length ws) ws c.args.block.now) c.head_words-head.ensures))

@@ -6,14 +6,14 @@ use Rattle.block.specs.Contents.{contents_in}
 use Rattle.host.proofs.Numbering.{begins, begins_not}
 use Rattle.host.proofs.export.ragnulois_begin.Goals as goal
 
-pub returns-then-call_known-clause-result_after : goal.returns-then-call_known-clause-result_after
-returns-then-call_known-clause-result_after c =
+pub returns-then-call_known-clause-outcome : goal.returns-then-call_known-clause-outcome
+returns-then-call_known-clause-outcome c =
     let a = c.args in
     begins width most (contents_in width most a.block.now) a.items.now a.party a.call a.source a.rule a.number
-    (sym c.call_known.ensures ∙ c.if-call_known.true) c.call_of-begun.ensures c.act.ensures.result_after
+    (sym c.call_known.ensures ∙ c.if-call_known.true) c.call_of-begun.ensures c.act.ensures.outcome
 
-pub returns-else-call_known-clause-result_after : goal.returns-else-call_known-clause-result_after
-returns-else-call_known-clause-result_after c =
+pub returns-else-call_known-clause-outcome : goal.returns-else-call_known-clause-outcome
+returns-else-call_known-clause-outcome c =
     let a = c.args in
     begins_not width most (contents_in width most a.block.now) a.items.now a.party a.call a.source a.rule a.number
     (sym c.call_known.ensures ∙ c.if-call_known.false)
