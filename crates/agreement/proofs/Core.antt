@@ -128,7 +128,7 @@ pub record Core (w most : ℕ) (r : Run) : Type 0 where
   pub plain : Plain
   pub possible : replay (kinds_of r.machine) r.record' ≡ lists plain
   pub shown : (q : ℕ) → q < r.machine.parties → plain.queue q ≡ shows w r.machine r.items q
-  pub in_hand_lem : (p : ℕ) → p < r.machine.parties → plain.hand p ≡ hand_at w r.machine r.items p
+  pub in_hand : (p : ℕ) → p < r.machine.parties → plain.hand p ≡ hand_at w r.machine r.items p
   pub fits : (q : ℕ) → q < r.machine.parties → fill_of (plain.queue q) ≤ (queue_at r.machine q).capacity
   pub caused :
       (p : ℕ) (k : Mark) → StepKeeps w most r p k
@@ -140,7 +140,7 @@ good_core w most wide r b = record {
   plain = plain_of b.cells b.members b.out b.gone;
   possible = b.possible;
   shown = λ q lt. is_shown w b q lt;
-  in_hand_lem = λ p lt. hand_shown w b p lt;
+  in_hand = λ p lt. hand_shown w b p lt;
   fits = λ q lt. fill_fits w b q lt;
   caused = λ p k prem. is_caused w most wide r b p k prem;
 }

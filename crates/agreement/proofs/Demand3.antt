@@ -16,7 +16,7 @@ agrees w most r s f k =
       sum = run_sum w most r s f c.plain c.possible;
       caused = c.caused;
       alone_agrees = alone_agrees w most (run_of w most r s);
-      in_hand_lem = c.in_hand_lem;
+      in_hand = c.in_hand;
       fits = c.fits;
     }
 

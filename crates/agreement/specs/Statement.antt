@@ -190,7 +190,7 @@ pub record Agrees (w most : ℕ) (r : Run) : Type 0 where
   -- claim 5
   pub alone_agrees : (p n : ℕ) → AloneAgrees w most r p (alone w most r.machine r.items p n)
   -- claim 6: what each party has in hand
-  pub in_hand_lem : (p : ℕ) → p < r.machine.parties → plain.hand p ≡ hand_at w r.machine r.items p
+  pub in_hand : (p : ℕ) → p < r.machine.parties → plain.hand p ≡ hand_at w r.machine r.items p
   -- claim 7: resting plus slots not yet given back
   pub fits : (q : ℕ) → q < r.machine.parties → fill_of (plain.queue q) ≤ (queue_at r.machine q).capacity
 

@@ -1,6 +1,6 @@
 -- One law for every entry that is lent a machine: it copies the machine out, has a function by value act on the copy, stores the machine that comes back, and answers with the rest of what came.
 -- The types are variables here. That a value is of its MIR type (`has_ty`) computes through every variant of a type that is spelled
--- out, and no walk over a type as large as the machine's gets past one copy of it; at a variable it stands still.
+-- out, and with the older kit no walk over a type as large as the machine's got past one copy of it; at a variable it stands still.
 --     Flat R τ         R is plain data: one machine value, of the MIR type τ, and nothing owned but facts
 --     Parted S R B     S is a struct of an R and a B, as the function by value returns it
 --     entry            the code

@@ -10,7 +10,7 @@ use tables::place::Place;
 use tables::state::{Drain, Kind, MOST, Machine, Opened, Party, Queue};
 
 // A machine with its queues opened, and the sum of their capacities.
-#[derive(Drop)]
+#[derive(Clone, Copy)]
 struct Filled {
     machine: Machine,
     total: u64,

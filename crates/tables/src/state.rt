@@ -46,14 +46,14 @@ pub struct Machine {
 }
 
 // What an act leaves: the machine, and what is said.
-#[derive(Drop)]
+#[derive(Clone, Copy)]
 pub struct Acted {
     pub machine: Machine,
     pub reply: Reply,
 }
 
 // What an opening gives; refusal 0 is none.
-#[derive(Drop)]
+#[derive(Clone, Copy)]
 pub struct Opened {
     pub machine: Machine,
     pub refusal: u8,

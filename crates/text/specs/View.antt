@@ -1,4 +1,4 @@
--- What may be missing: the language has no Option, so the code has an enum of its own for each type that it reads.
+-- What may be missing: the code has an enum of its own for each type that it reads.
 use Rattle.std.specs.Prelude.{◌≡◌, ℕ, ◌+◌, ◌*◌, ◌≤◌, Bool, List, [], ◌∷◌, ◌==◌, nat_lt}
 use Rattle.std.proofs.Math.Option.{Option, none, some}
 use Rattle.words.specs.Word.{pick}

@@ -19,7 +19,7 @@ use tables::call::{Call, Mark};
 use tables::state::{MOST, Machine, Party, Queue};
 
 // Lines taken: the machine and the line count as they leave them, and the places in the piece and in the buffer.
-#[derive(Drop)]
+#[derive(Clone, Copy)]
 pub struct After {
     pub machine: Machine,
     pub line: u64,

@@ -32,7 +32,7 @@ pub struct Run {
 }
 
 // A run after a piece of input: how many of its bytes were used, and how many were written.
-#[derive(Drop)]
+#[derive(Clone, Copy)]
 pub struct Fed {
     pub run: Run,
     pub used: usize,
@@ -40,7 +40,7 @@ pub struct Fed {
 }
 
 // A run after some of its rest lines: how many bytes were written, and whether nothing is left to be.
-#[derive(Drop)]
+#[derive(Clone, Copy)]
 pub struct Rested {
     pub run: Run,
     pub put: usize,

@@ -40,7 +40,7 @@ pub struct Said {
     pub put: usize,
 }
 
-#[derive(Drop)]
+#[derive(Clone, Copy)]
 pub struct Taken {
     pub session: Session,
     pub machine: Machine,
