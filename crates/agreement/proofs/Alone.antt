@@ -1,17 +1,19 @@
 -- Claim 5, but for the lists: running alone is that many single steps: machine, items, answer, effects with dropped ones in a row as one.
 -- Each of its turns is a plain step that nothing refuses (tables/proofs/Alone), and what it gathers is gathered step by step.
 use Prim.Native.Nat.{ℕ, zero, suc, ◌+◌}
-use mathlib.Core.Path.{◌≡◌, refl, ap, subst, ◌∙◌}
+use mathlib.Core.Path.{◌≡◌, refl, sym, ap, subst, ◌∙◌}
+use mathlib.Core.Bool.{true, true≢false}
 use mathlib.Core.List.{List, [], ◌∷◌}
 use native.Mathlib.Omega.{arith}
 use lib.ListN.{length}
+use Rattle.std.specs.Prelude.{Option, Some, None}
 use Rattle.tables.specs.declared.answer.Answer.{Answer}
 use Rattle.tables.specs.declared.answer.Effect.{Effect}
 use Rattle.tables.specs.declared.call.Mark.TheVariants as Mark
 use Rattle.tables.specs.Answer.{is_pending}
 use Rattle.tables.specs.Step.{Outcome, taken, step, Alone, noted, stops, onward, runs, until, still, alone}
-use Rattle.tables.specs.Lists.{Entry, said}
-use Rattle.tables.proofs.Bools.{pick_if, pick_yes}
+use Rattle.tables.specs.Lists.{Entry}
+use Rattle.tables.proofs.Bools.{pick_if}
 use Rattle.tables.proofs.Refused.{step_refusal_lem, alone_needs, alone_if}
 use Rattle.tables.proofs.Alone.{Going, turn_pending, turn_can, turn_is_step, turn_going, going_still}
 use Rattle.agreement.specs.Statement.{Run, did_entry, said_entry, recorded, stepped, repeated, singles, NoneRefused, last_answer, gathered}
@@ -21,12 +23,16 @@ unfoldable pub singles_on : List Entry → List Outcome → List Entry
 singles_on l [] = l
 singles_on l (o ∷ os) = singles_on (did_entry o.effect l) os
 
+said_none : (p : ℕ) (a : Option Answer) (l : List Entry) → is_pending a ≡ true → said_entry p a l ≡ l
+said_none p None l e = refl
+said_none p (Some a) l e = absurd (true≢false (sym e))
+
 -- running alone, from a run on
-abbrev pub alongside : Run → Answer → List Effect → (steps : ℕ) → Alone
+abbrev pub alongside : Run → Option Answer → List Effect → (steps : ℕ) → Alone
 alongside r a es n = record { machine = r.machine; items = r.items; answer = a; effects = es; steps = n; refusal = 0 }
 
 -- so many single steps come to where running alone comes; l is the record but for an answer on top
-pub record Follows (w most : ℕ) (r : Run) (p : ℕ) (l : List Entry) (a : Answer) (es : List Effect) (n : ℕ) (b : Alone) : Type 0 where
+pub record Follows (w most : ℕ) (r : Run) (p : ℕ) (l : List Entry) (a : Option Answer) (es : List Effect) (n : ℕ) (b : Alone) : Type 0 where
   pub turns : ℕ
   pub steps : b.steps ≡ n + turns
   pub machine : (repeated w most turns r p).machine ≡ b.machine
@@ -37,13 +43,13 @@ pub record Follows (w most : ℕ) (r : Run) (p : ℕ) (l : List Entry) (a : Answ
   pub record_is : (repeated w most turns r p).record' ≡ said_entry p b.answer (singles_on l (singles w most turns r p))
 
 module _ (w most p : ℕ) where
-  none_yet : (r : Run) (l : List Entry) (a : Answer) (es : List Effect) (n : ℕ) → r.record' ≡ said_entry p a l
+  none_yet : (r : Run) (l : List Entry) (a : Option Answer) (es : List Effect) (n : ℕ) → r.record' ≡ said_entry p a l
       → Follows w most r p l a es n (alongside r a es n)
   unfolding repeated singles last_answer gathered singles_on NoneRefused
   none_yet r l a es n e =
       record { turns = 0; steps = omega arith; machine = refl; items = refl; answer = refl; effects = refl; taken = tt; record_is = e }
 
-  one_more : (r : Run) (l : List Entry) (a : Answer) (es : List Effect) (n : ℕ) (b : Alone)
+  one_more : (r : Run) (l : List Entry) (a : Option Answer) (es : List Effect) (n : ℕ) (b : Alone)
       → (step w most r.machine r.items p Mark.Plain).refusal ≡ 0
       → Follows w most (stepped w most r p Mark.Plain) p (did_entry (step w most r.machine r.items p Mark.Plain).effect l)
       (step w most r.machine r.items p Mark.Plain).answer (noted es (step w most r.machine r.items p Mark.Plain).effect) (n + 1) b
@@ -60,7 +66,7 @@ module _ (w most p : ℕ) where
     record_is = f.record_is;
   }
 
-  follows : (k : ℕ) (r : Run) (l : List Entry) (a : Answer) (es : List Effect) (n : ℕ) → Going w most p (alongside r a es n)
+  follows : (k : ℕ) (r : Run) (l : List Entry) (a : Option Answer) (es : List Effect) (n : ℕ) → Going w most p (alongside r a es n)
       → r.record' ≡ said_entry p a l
       → Follows w most r p l a es n (runs w p k (alongside r a es n))
   unfolding until
@@ -72,7 +78,7 @@ module _ (w most p : ℕ) where
       turn_is_step w most p (alongside r a es n) g h in
       let go : Going w most p (onward (alongside r a es n) (step w most r.machine r.items p Mark.Plain)) =
       rw same (turn_going w most p (alongside r a es n) g h) in
-      let bare : r.record' ≡ l = e ∙ pick_yes (is_pending a) l (said p a ∷ l) (turn_pending w most p (alongside r a es n) g h) in
+      let bare : r.record' ≡ l = e ∙ said_none p a l (turn_pending w most p (alongside r a es n) g h) in
       subst (λ (o : Outcome). Follows w most r p l a es n (runs w p k (onward (alongside r a es n) o))) same
       (one_more r l a es n _ (step_refusal_lem w most r.machine p Mark.Plain r.items ∙ turn_can w most p (alongside r a es n) g h)
       (follows k (stepped w most r p Mark.Plain) _ _ _ (n + 1) go
@@ -83,12 +89,12 @@ module _ (w most p : ℕ) where
 pub record AsSingles (w most : ℕ) (r : Run) (p : ℕ) (b : Alone) : Type 0 where
   pub machine : (repeated w most b.steps r p).machine ≡ b.machine
   pub items : (repeated w most b.steps r p).items ≡ b.items
-  pub answer : b.answer ≡ last_answer Answer.Pending (singles w most b.steps r p)
+  pub answer : b.answer ≡ last_answer None (singles w most b.steps r p)
   pub effects : b.effects ≡ gathered [] (singles w most b.steps r p)
   pub taken : NoneRefused (singles w most b.steps r p)
   pub record_is : (repeated w most b.steps r p).record' ≡ said_entry p b.answer (singles_on r.record' (singles w most b.steps r p))
 
-as_singles : (w most : ℕ) (r : Run) (p : ℕ) (b : Alone) → Follows w most r p r.record' Answer.Pending [] 0 b → AsSingles w most r p b
+as_singles : (w most : ℕ) (r : Run) (p : ℕ) (b : Alone) → Follows w most r p r.record' None [] 0 b → AsSingles w most r p b
 as_singles w most r p b f =
     let e : f.turns ≡ b.steps = omega (arith, f.steps) in
     record {
@@ -108,6 +114,6 @@ pub alone_is_singles : (w most : ℕ) (r : Run) (p n : ℕ) → AsSingles w most
 alone_is_singles w most r p n =
     alone_if w most r.machine p r.items n (AsSingles w most r p)
     (λ e. as_singles w most r p _
-    (follows w most p n r r.record' Answer.Pending [] 0
+    (follows w most p n r r.record' None [] 0
     (going_still w most p r.machine r.items n (alone_needs w most r.machine p (length r.items) e)) refl))
     (λ e. none_taken w most r p _)

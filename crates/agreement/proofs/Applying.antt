@@ -1,26 +1,29 @@
 -- Runs of the code are the runs that demand 3 speaks of: outcomes of `apply` in a row leave the machine and the items of `run_of`, and their
 -- replies, put on the record as they came, replay to the same lists. A begin has no effect and no answer; a step's effect is the one of its
 -- reply; a run alone is its single steps (claim 5).
-use Prim.Native.Nat.{ℕ, ◌≤◌, ◌<◌}
+use Prim.Native.Nat.{ℕ, zero, suc, ◌≤◌, ◌<◌}
 use mathlib.Core.Path.{◌≡◌, refl, sym, ap, subst, ◌∙◌}
-use mathlib.Core.Bool.{Bool, true, false}
 use mathlib.Core.List.{List, [], ◌∷◌}
 use native.Mathlib.Omega.{arith}
 use lib.ListN.{length}
-use Rattle.words.specs.Word.{pick}
+use Rattle.std.specs.Prelude.{Option, Some, None, Result, Ok, Err}
 use Rattle.tables.specs.declared.answer.Effect.{Effect}
+use Rattle.tables.specs.declared.answer.Refusal.{Refusal}
+use Rattle.tables.specs.declared.answer.Reply.{Reply}
+use Rattle.tables.specs.declared.call.Mark.{Mark}
 use Rattle.tables.specs.declared.state.Kind.{Kind}
 use Rattle.tables.specs.declared.state.Machine.{Machine}
-use Rattle.tables.specs.Answer.{is_pending}
-use Rattle.tables.specs.Effect.{is_none}
-use Rattle.tables.specs.Lists.{Plain, Entry, did, said, lists, replay_from, replay}
+use Rattle.tables.specs.Lists.{Plain, Entry, did, lists, replay_from, replay}
+use Rattle.tables.specs.Refusal.{told}
 use Rattle.tables.specs.Shows.{shows}
-use Rattle.tables.specs.Step.{Outcome, begin, step, alone, appended, noted, three_effects, Result, of_outcome, acted}
+use Rattle.tables.specs.Step.{Outcome, begin, step, alone, appended, noted, three_effects, AfterAct, of_outcome, of_alone, acted}
+use Rattle.tables.specs.Step.{begin_refusal, step_refusal, taken, still, Alone}
 use Rattle.tables.proofs.Effects.{alone_few}
-use Rattle.tables.proofs.Refused.{begin_if}
+use Rattle.tables.proofs.Alone.{runs_refusal}
+use Rattle.tables.proofs.Refused.{begin_if, step_if, alone_if}
 use Rattle.agreement.specs.Statement.{Line, begins, steps, alones, Run, kinds_of, did_entry, said_entry, recorded, line, run_of, put_on, Fresh, Keeps}
-use Rattle.agreement.specs.Outcomes.{party_of, act_of, InARow, machine_after, items_after, effects_in, reply_on, replies_on}
-use Rattle.agreement.proofs.Merged.{on_top, alone_record, alone_agrees}
+use Rattle.agreement.specs.Outcomes.{party_of, act_of, InARow, machine_after, items_after, effects_in, said_on, reply_on, replies_on}
+use Rattle.agreement.proofs.Merged.{said_same, alone_record, alone_agrees}
 use Rattle.agreement.proofs.Demand3.{agrees}
 
 -- at most three effects are all there
@@ -38,19 +41,30 @@ module _ (ks : ℕ → Kind) where
   put_same [] l k e = e
   put_same (x ∷ es) l k e = put_same es (did x ∷ l) (did x ∷ k) (ap (replay_from ks (did x)) e)
 
-  reply_same : (p : ℕ) (o : Result) (l k : List Entry) → replay ks l ≡ replay ks k → replay ks (reply_on p o.reply l) ≡ replay ks (reply_on p o.reply k)
-  reply_same p o l k e =
-      on_top ks p (is_pending o.reply.answer) (said p o.reply.answer) (put_on l (effects_in o.reply.effects))
-      (put_on k (effects_in o.reply.effects)) (put_same (effects_in o.reply.effects) l k e)
+  reply_same : (p : ℕ) (r : Result Reply Refusal) (l k : List Entry) → replay ks l ≡ replay ks k → replay ks (reply_on p r l) ≡ replay ks (reply_on p r k)
+  reply_same p (Ok r) l k e =
+      said_same ks p r.answer (put_on l (effects_in r.effects)) (put_on k (effects_in r.effects))
+      (put_same (effects_in r.effects) l k e)
+  reply_same p (Err x) l k e = e
+
+-- a reply that is told or refused, where what is refused says nothing
+reply_told : (p code : ℕ) (r : Reply) (l : List Entry) → ((code ≡ 0 → ⊥) → said_on p r l ≡ l) → reply_on p (told code r) l ≡ said_on p r l
+reply_told p zero r l silent = refl
+reply_told p (suc k) r l silent = sym (silent (λ e. absurd (omega arith)))
 
 -- one effect or none
-one_put : (e : Effect) (l : List Entry) → put_on l (effects_in (three_effects (noted [] e))) ≡ did_entry e l
+one_put : (e : Option Effect) (l : List Entry) → put_on l (effects_in (three_effects (noted [] e))) ≡ did_entry e l
 unfolding put_on appended
-one_put e l = at (is_none e.change)
-  where
-    at : (t : Bool) → put_on l (effects_in (three_effects (pick t [] (appended [] e)))) ≡ pick t l (did e ∷ l)
-    at true = refl
-    at false = refl
+one_put None l = refl
+one_put (Some e) l = refl
+
+-- a refusal says nothing
+abbrev nothing_said : Reply
+nothing_said = record { answer = None; effects = three_effects []; steps = 0 }
+
+refused_silent : (p code : ℕ) (l : List Entry) → reply_on p (told code nothing_said) l ≡ l
+unfolding put_on
+refused_silent p code l = reply_told p code nothing_said l (λ n. refl)
 
 module _ (w most : ℕ) where
   -- ---- a line
@@ -58,12 +72,29 @@ module _ (w most : ℕ) where
   begin_silent : (m : Machine) (xs : List ℕ) (p : ℕ) (c : _) (l : List Entry) → reply_on p (of_outcome (begin w most m xs p c)).reply l ≡ l
   unfolding put_on
   begin_silent m xs p c l =
-      begin_if w most m p c xs (λ (o : Outcome). reply_on p (of_outcome o).reply l ≡ l) (λ e. refl) (λ e. refl)
+      begin_if w most m p c xs (λ (o : Outcome). reply_on p (of_outcome o).reply l ≡ l) (λ e. refl)
+      (λ e. refused_silent p (begin_refusal w most m (length xs) p c) l)
 
-  step_noted : (p : ℕ) (o : Outcome) (l : List Entry) → reply_on p (of_outcome o).reply l ≡ recorded p o l
-  step_noted p o l = ap (said_entry p o.answer) (one_put o.effect l)
+  abbrev StepNoted : (p : ℕ) (l : List Entry) → Outcome → Type 0
+  StepNoted p l o = reply_on p (of_outcome o).reply l ≡ recorded p o l
 
-  abbrev outcome : Run → Line → Result
+  step_noted : (m : Machine) (xs : List ℕ) (p : ℕ) (k : Mark) (l : List Entry) → StepNoted p l (step w most m xs p k)
+  unfolding put_on
+  step_noted m xs p k l =
+      step_if w most m p k xs (StepNoted p l)
+      (λ e. unfold taken in ap (said_entry p (taken w m xs p k).answer) (one_put (taken w m xs p k).effect l))
+      (λ e. refused_silent p (step_refusal w most m (length xs) p k) l)
+
+  abbrev AloneSaid : (p : ℕ) (l : List Entry) → Alone → Type 0
+  AloneSaid p l b = reply_on p (of_alone b).reply l ≡ said_entry p b.answer (put_on l (effects_in (three_effects b.effects)))
+
+  alone_said : (m : Machine) (xs : List ℕ) (p n : ℕ) (l : List Entry) → AloneSaid p l (alone w most m xs p n)
+  unfolding put_on
+  alone_said m xs p n l =
+      reply_told p _ _ l (λ e. alone_if w most m p xs n (λ (b : Alone). (b.refusal ≡ 0 → ⊥) → said_entry p b.answer (put_on l (effects_in (three_effects b.effects))) ≡ l)
+      (λ h i. absurd (i (runs_refusal w most p n (still m xs 0) refl))) (λ h i. refl) e)
+
+  abbrev outcome : Run → Line → AfterAct
   outcome r x = acted w most r.machine r.items (party_of x) (act_of x)
 
   line_machine : (r : Run) (x : Line) → (outcome r x).machine ≡ (line w most r x).machine
@@ -79,19 +110,20 @@ module _ (w most : ℕ) where
   line_lists : (ks : ℕ → Kind) (r : Run) (x : Line)
       → replay ks (reply_on (party_of x) (outcome r x).reply r.record') ≡ replay ks (line w most r x).record'
   line_lists ks r (begins p c) = ap (replay ks) (begin_silent r.machine r.items p c r.record')
-  line_lists ks r (steps p k) = ap (replay ks) (step_noted p (step w most r.machine r.items p k) r.record')
+  line_lists ks r (steps p k) = ap (replay ks) (step_noted r.machine r.items p k r.record')
   line_lists ks r (alones p n) =
       let b = alone w most r.machine r.items p n in
-      ap (λ (es : List Effect). replay ks (said_entry p b.answer (put_on r.record' es))) (three b.effects (alone_few w p most r.machine r.items n))
+      ap (replay ks) (alone_said r.machine r.items p n r.record')
+      ∙ ap (λ (es : List Effect). replay ks (said_entry p b.answer (put_on r.record' es))) (three b.effects (alone_few w p most r.machine r.items n))
       ∙ alone_record w most r p n ks
 
-  next_machine : (r : Run) (x : Line) (o : Result) → o ≡ outcome r x → o.machine ≡ (line w most r x).machine
-  next_machine r x o e = ap (λ (q : Result). q.machine) e ∙ line_machine r x
+  next_machine : (r : Run) (x : Line) (o : AfterAct) → o ≡ outcome r x → o.machine ≡ (line w most r x).machine
+  next_machine r x o e = ap (λ (q : AfterAct). q.machine) e ∙ line_machine r x
 
-  next_items : (r : Run) (x : Line) (o : Result) → o ≡ outcome r x → o.items ≡ (line w most r x).items
-  next_items r x o e = ap (λ (q : Result). q.items) e ∙ line_items r x
+  next_items : (r : Run) (x : Line) (o : AfterAct) → o ≡ outcome r x → o.items ≡ (line w most r x).items
+  next_items r x o e = ap (λ (q : AfterAct). q.items) e ∙ line_items r x
 
-  next : (r : Run) (x : Line) (s : List Line) (o : Result) (os : List Result) → InARow w most r.machine r.items (x ∷ s) (o ∷ os)
+  next : (r : Run) (x : Line) (s : List Line) (o : AfterAct) (os : List AfterAct) → InARow w most r.machine r.items (x ∷ s) (o ∷ os)
       → InARow w most (line w most r x).machine (line w most r x).items s os
   unfolding InARow
   next r x s o os h =
@@ -100,7 +132,7 @@ module _ (w most : ℕ) where
 
   -- ---- a row of lines
 
-  pub row_machine : (r : Run) (s : List Line) (os : List Result) → InARow w most r.machine r.items s os
+  pub row_machine : (r : Run) (s : List Line) (os : List AfterAct) → InARow w most r.machine r.items s os
       → machine_after r.machine os ≡ (run_of w most r s).machine
   unfolding InARow machine_after run_of
   row_machine r [] [] h = refl
@@ -108,7 +140,7 @@ module _ (w most : ℕ) where
   row_machine r (x ∷ s) [] h = absurd h
   row_machine r (x ∷ s) (o ∷ os) h = ap (λ (m : Machine). machine_after m os) (next_machine r x o h.0) ∙ row_machine (line w most r x) s os (next r x s o os h)
 
-  pub row_items : (r : Run) (s : List Line) (os : List Result) → InARow w most r.machine r.items s os
+  pub row_items : (r : Run) (s : List Line) (os : List AfterAct) → InARow w most r.machine r.items s os
       → items_after r.items os ≡ (run_of w most r s).items
   unfolding InARow items_after run_of
   row_items r [] [] h = refl
@@ -116,7 +148,7 @@ module _ (w most : ℕ) where
   row_items r (x ∷ s) [] h = absurd h
   row_items r (x ∷ s) (o ∷ os) h = ap (λ (l : List ℕ). items_after l os) (next_items r x o h.0) ∙ row_items (line w most r x) s os (next r x s o os h)
 
-  pub row_lists : (ks : ℕ → Kind) (r : Run) (s : List Line) (os : List Result) → InARow w most r.machine r.items s os
+  pub row_lists : (ks : ℕ → Kind) (r : Run) (s : List Line) (os : List AfterAct) → InARow w most r.machine r.items s os
       → (l : List Entry) → replay ks l ≡ replay ks r.record' → replay ks (replies_on s os l) ≡ replay ks (run_of w most r s).record'
   unfolding InARow replies_on run_of
   row_lists ks r [] [] h l e = e
@@ -124,12 +156,12 @@ module _ (w most : ℕ) where
   row_lists ks r (x ∷ s) [] h l e = absurd h
   row_lists ks r (x ∷ s) (o ∷ os) h l e =
       row_lists ks (line w most r x) s os (next r x s o os h) (reply_on (party_of x) o.reply l)
-      (reply_same ks (party_of x) o l r.record' e
-      ∙ ap (λ (q : Result). replay ks (reply_on (party_of x) q.reply r.record')) h.0 ∙ line_lists ks r x)
+      (reply_same ks (party_of x) o.reply l r.record' e
+      ∙ ap (λ (q : AfterAct). replay ks (reply_on (party_of x) q.reply r.record')) h.0 ∙ line_lists ks r x)
 
   -- ---- claims 1 and 2, of what the code gave back
 
-  module _ (r : Run) (s : List Line) (os : List Result) (fresh : Fresh w most r) (keeps : Keeps w most r s)
+  module _ (r : Run) (s : List Line) (os : List AfterAct) (fresh : Fresh w most r) (keeps : Keeps w most r s)
       (row : InARow w most r.machine r.items s os) where
     abbrev plain : Plain
     plain = (agrees w most r s fresh keeps).plain

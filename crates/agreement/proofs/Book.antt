@@ -8,10 +8,10 @@ use Prim.Native.Nat.{ℕ, ◌+◌, ◌-◌, ◌%◌, ◌^◌, ◌≤◌, ◌<◌
 use native.Mathlib.Omega.{arith}
 use lib.Dec.{eqb}
 use borrow.Author.Tests.{eqb-true, eqb-false}
+use Rattle.std.specs.Prelude.{Some, None}
 use Rattle.words.specs.Word.{pick, plus, minus, packed, high, low}
 use Rattle.tables.specs.declared.access.Seen.{Seen}
 use Rattle.tables.specs.declared.answer.Answer.TheVariants as Answer
-use Rattle.tables.specs.declared.answer.Change.TheVariants as Change
 use Rattle.tables.specs.declared.call.Mark.{Mark}
 use Rattle.tables.specs.declared.state.Drain.{Drain}
 use Rattle.tables.specs.declared.state.Kind.{Kind}
@@ -78,8 +78,8 @@ module _ (w half : ℕ) (two : 2 ^ w ≡ half + half) (p : ℕ) (items : List �
         → (dn ≢ low w q → BookStill w b g → is_open l.holder ≡ true)
         → (BookStill w b g → low w q ≡ head g % 2 ^ w) → (t : Bool) → eqb dn (low w q) ≡ t
         → SrcNext w p (booking_source p h) fm (booking_who p h) items Kind.Lifo cap s g l d (Place.Book h b) mark (shows (words_of w Kind.Lifo cap g) s y)
-        (pick t (record { place = Place.Book h (BookPlace.LifoPushes q dn); drain = d; answer = Answer.Pending; change = Change.None })
-        (record { place = Place.Idle; drain = d; answer = Answer.Busy; change = Change.None }))
+        (pick t (record { place = Place.Book h (BookPlace.LifoPushes q dn); drain = d; answer = None; change = None })
+        (record { place = Place.Idle; drain = d; answer = Some Answer.Busy; change = None }))
     done_test b q dn y f why st true e = books_on w p (booking_source p h) fm (booking_who p h) items Kind.Lifo d mark i h b (BookPlace.LifoPushes q dn) y
         (refl, f (eqb-true dn (low w q) e)) st
     done_test b q dn y f why st false e = refuses w p (booking_source p h) fm (booking_who p h) items Kind.Lifo d mark i h b Answer.Busy y refl
@@ -155,8 +155,8 @@ module _ (w half : ℕ) (two : 2 ^ w ≡ half + half) (p : ℕ) (items : List �
   heads_test_lem : (fm : ℕ) (b : BookPlace) (y : Seen) → fm ≤ g.moved → (t : Bool)
       → eqb (high w (pair w (head g) g.completed)) (low w (pair w (head g) g.completed)) ≡ t
       → SrcNext w p (booking_source p h) fm (booking_who p h) items Kind.Fifo cap s g l d (Place.Book h b) mark (shows (words_of w Kind.Fifo cap g) s y)
-      (pick t (record { place = Place.Book h (BookPlace.FifoTail (pair w (head g) g.completed)); drain = d; answer = Answer.Pending; change = Change.None })
-      (record { place = Place.Idle; drain = d; answer = Answer.Busy; change = Change.None }))
+      (pick t (record { place = Place.Book h (BookPlace.FifoTail (pair w (head g) g.completed)); drain = d; answer = None; change = None })
+      (record { place = Place.Idle; drain = d; answer = Some Answer.Busy; change = None }))
   heads_test_lem fm b y le true e =
       let z : head g % 2 ^ w ≡ g.completed % 2 ^ w = sym (high_is w (head g) g.completed refl) ∙ eqb-true _ _ e
       ∙ low_is w (head g) g.completed refl in

@@ -11,6 +11,7 @@ use lib.ListN.{length}
 use lib.Seq.{length-take-le}
 use lib.Dec.{eqb}
 use borrow.Author.Tests.{eqb-true, eqb-false, eq-eqb, ne_eqb, lt-ltb, le-leb}
+use Rattle.std.specs.Prelude.{Option, Some, None}
 use Rattle.words.specs.Word.{pick, orb, plus, least_of}
 use Rattle.tables.specs.declared.access.Seen.{Seen}
 use Rattle.tables.specs.declared.answer.Answer.{Answer}
@@ -31,6 +32,7 @@ use Rattle.tables.specs.Lists.{party, is_open, Lists, book, can, in_front}
 use Rattle.tables.specs.Causes.{GaveZero, RuleGaveZero}
 use Rattle.tables.proofs.Bools.{and_left}
 use Rattle.tables.specs.Shows.{by_drain}
+use Rattle.tables.proofs.Maybe.{hands_maybe}
 use Rattle.agreement.proofs.Wrap.{plus_is, same}
 use Rattle.agreement.proofs.Ring.{tokens_zero}
 use Rattle.agreement.proofs.Nums.{Who, noone, call, drain, holder_of, Nums, head, tail, books, rest_length}
@@ -62,15 +64,16 @@ few_room w Transfer.Take n room le = omega (arith, mod-le (room + 1) (2 ^ w))
 module _ (w p x fm : ℕ) (me : Who) (items : List ℕ) (k : Kind) (d : Drain) (mark : Mark) {cap : ℕ} {s : List ℕ} {g : Nums} {l : Lists}
     (i : Whole w k cap s g l) where
   -- nothing changes on the source
-  pub stays : (pl pl' : Place) (a : Answer) (y : Seen) → BkF w p fm items pl' k g l → (pl' ≡ Place.Idle) ⊎ (source_of p pl' ≡ source_of p pl)
+  pub stays : (pl pl' : Place) (a : Option Answer) (y : Seen) → BkF w p fm items pl' k g l
+      → (pl' ≡ Place.Idle) ⊎ (source_of p pl' ≡ source_of p pl)
       → ((fill : ℕ) (hand : List ℕ) (k₂ : Kind) (cap₂ : ℕ) (s₂ : List ℕ) (g₂ : Nums) (l₂ : Lists)
       → OwnF w fill items hand pl k₂ cap₂ s₂ g₂ l₂
-      → (in_front (handed_out a) hand ≡ true) × OwnF w fill items (hand_over a hand) pl' k₂ cap₂ s₂ g₂ l₂)
+      → (in_front (hands_maybe a) hand ≡ true) × OwnF w fill items (hand_over a hand) pl' k₂ cap₂ s₂ g₂ l₂)
       → ((z : ℕ) → held w p pl d z ≡ true → held w p pl' d z ≡ true) → (Still w pl g → Still w pl' g)
       → Why ⊥ ⊥ (Still w pl g → is_open l.holder ≡ true) ((l.resting ≡ []) ⊎
       ((limit_at w pl ≡ 0) ⊎ RuleGaveZero w pl (words_of w k cap g) mark)) a
       → SrcNext w p x fm me items k cap s g l d pl mark (shows (words_of w k cap g) s y)
-      (record { place = pl'; drain = d; answer = a; change = Change.None })
+      (record { place = pl'; drain = d; answer = a; change = None })
   unfolding can
   stays pl pl' a y b sr ds c st why = record {
     g' = g;
@@ -101,9 +104,9 @@ module _ (w p x fm : ℕ) (me : Who) (items : List ℕ) (k : Kind) (d : Drain) (
   pub books_on : (h : BookingCall) (b b' : BookPlace) (y : Seen) → BkB w fm (limit_of w h) b' k g
       → (Still w (Place.Book h b) g → Still w (Place.Book h b') g)
       → SrcNext w p x fm me items k cap s g l d (Place.Book h b) mark (shows (words_of w k cap g) s y)
-      (record { place = Place.Book h b'; drain = d; answer = Answer.Pending; change = Change.None })
+      (record { place = Place.Book h b'; drain = d; answer = None; change = None })
   books_on h b b' y f st =
-      stays (Place.Book h b) (Place.Book h b') Answer.Pending y f (inr refl) (λ fill hand k₂ cap₂ s₂ g₂ l₂ o. (
+      stays (Place.Book h b) (Place.Book h b') None y f (inr refl) (λ fill hand k₂ cap₂ s₂ g₂ l₂ o. (
         refl,
         record {
           wait_is = o.wait_is;
@@ -114,11 +117,11 @@ module _ (w p x fm : ℕ) (me : Who) (items : List ℕ) (k : Kind) (d : Drain) (
 
   pub refuses : (h : BookingCall) (b : BookPlace) (a : Answer) (y : Seen) → handed_out a ≡ []
       → Why ⊥ ⊥ (Still w (Place.Book h b) g → is_open l.holder ≡ true)
-      ((l.resting ≡ []) ⊎ ((limit_of w h ≡ 0) ⊎ RuleGaveZero w (Place.Book h b) (words_of w k cap g) mark)) a
+      ((l.resting ≡ []) ⊎ ((limit_of w h ≡ 0) ⊎ RuleGaveZero w (Place.Book h b) (words_of w k cap g) mark)) (Some a)
       → SrcNext w p x fm me items k cap s g l d (Place.Book h b) mark (shows (words_of w k cap g) s y)
-      (record { place = Place.Idle; drain = d; answer = a; change = Change.None })
+      (record { place = Place.Idle; drain = d; answer = Some a; change = None })
   refuses h b a y bare why =
-      stays (Place.Book h b) Place.Idle a y tt (inl refl)
+      stays (Place.Book h b) Place.Idle (Some a) y tt (inl refl)
       (λ fill hand k₂ cap₂ s₂ g₂ l₂ o. (rw bare refl, record { wait_is = o.wait_is; hand_is = rw bare o.hand_is; at = tt }))
       (λ z h. h) (λ _. tt) why
 
@@ -138,13 +141,13 @@ module _ (w p x fm : ℕ) (me : Who) (items : List ℕ) (k : Kind) (d : Drain) (
 
       go : (b₁ : Bool) → eqb n 0 ≡ b₁ → (b₂ : Bool) → eqb (least_of (ruled (rule_of h) mark n) (limit_of w h) n) 0 ≡ b₂
           → SrcNext w p x fm me items k cap s g l d (Place.Book h b) mark (shows (words_of w k cap g) s y)
-          (pick b₁ (record { place = Place.Idle; drain = d; answer = Answer.Empty; change = Change.None })
-          (pick b₂ (record { place = Place.Idle; drain = d; answer = Answer.Empty; change = Change.None })
+          (pick b₁ (record { place = Place.Idle; drain = d; answer = Some Answer.Empty; change = None })
+          (pick b₂ (record { place = Place.Idle; drain = d; answer = Some Answer.Empty; change = None })
           (record {
             place = Place.Book h (cas (least_of (ruled (rule_of h) mark n) (limit_of w h) n));
             drain = d;
-            answer = Answer.Pending;
-            change = Change.None;
+            answer = None;
+            change = None;
           })))
       go true e₁ b₂ e₂ = refuses h b Answer.Empty y refl (inl (none (eqb-true n 0 e₁)))
       go false e₁ true e₂ = refuses h b Answer.Empty y refl (inr (gave (eqb-false n 0 e₁) (eqb-true (least_of (ruled (rule_of h) mark n) (limit_of

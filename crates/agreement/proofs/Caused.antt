@@ -18,7 +18,7 @@ use Rattle.tables.specs.declared.place.Place.{Place}
 use Rattle.tables.specs.declared.place.Transfer.{Transfer}
 use Rattle.tables.specs.Machine.{queue_at}
 use Rattle.tables.specs.Table.{room_for, limit_of}
-use Rattle.tables.specs.Answer.{Reason, nothing, none_rested, none_free, one_open, none_to_book, answer_row}
+use Rattle.tables.specs.Answer.{Reason, nothing, none_rested, none_free, one_open, none_to_book, reason_of}
 use Rattle.tables.specs.Step.{Outcome, place_at, source_at, step}
 use Rattle.tables.specs.Lists.{is_open, Lists, Plain, update}
 use Rattle.tables.specs.Causes.{is_first_load, is_head_load, fill_of, Premise, RuleGaveZero, steals, is_steal, NoRoom, CauseOf, Cause}
@@ -133,7 +133,7 @@ module _ (w : ℕ) (wide : 1 < w) {r : Run} (b : Good w r) (p : ℕ) (pn : p < r
 
   pub taken_caused : Cause w r.machine p k (replayed r.machine r.record') (after_step r p (after w wide b p pn k prem)).notes
       (next w wide b p pn k prem).answer
-  taken_caused = cause_of (answer_row (next w wide b p pn k prem).answer).reason (step₁ w wide b p pn k prem).why
+  taken_caused = cause_of (reason_of (next w wide b p pn k prem).answer) (step₁ w wide b p pn k prem).why
 
 pub is_caused : (w most : ℕ) → 1 < w → (r : Run) → Good w r → (p : ℕ) (k : Mark) → StepKeeps w most r p k
     → Cause w r.machine p k (replayed r.machine r.record') (stepped w most r p k).notes

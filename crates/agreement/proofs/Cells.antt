@@ -4,6 +4,7 @@ use mathlib.Core.Logic.{◌⊎◌}
 use mathlib.Core.Bool.{Bool, true, true≢false}
 use mathlib.Core.List.{List, []}
 use Prim.Native.Nat.{ℕ, ◌+◌, ◌<◌}
+use Rattle.std.specs.Prelude.{Option, Some, None}
 use Rattle.words.specs.Word.{pick}
 use Rattle.tables.specs.declared.access.Next.{Next}
 use Rattle.tables.specs.declared.answer.Answer.{Answer}
@@ -15,10 +16,10 @@ use Rattle.tables.specs.declared.state.Queue.{Queue}
 use Rattle.tables.specs.declared.place.Place.{Place}
 use Rattle.tables.specs.Access.{Accessed}
 use Rattle.tables.specs.Tables.{source_of}
-use Rattle.tables.specs.Answer.{Reason, answer_row, handed_out}
-use Rattle.tables.specs.Lists.{party, is_open, Lists, Plain, update, does, can, in_front}
-use Rattle.tables.specs.Effect.{change_row, moves_of}
+use Rattle.tables.specs.Answer.{Reason, reason_of}
+use Rattle.tables.specs.Lists.{party, is_open, Lists, Plain, update, does, in_front}
 use Rattle.tables.specs.Causes.{is_first_load, is_head_load, fill_of, RuleGaveZero}
+use Rattle.tables.proofs.Maybe.{hands_maybe, moves_maybe, lands_maybe, can_maybe, does_maybe}
 use Rattle.tables.proofs.Updates.{update_elim}
 use Rattle.agreement.proofs.Nums.{noone, holder_of, Nums}
 use Rattle.agreement.proofs.Whole.{Whole, words_of}
@@ -73,42 +74,42 @@ abbrev pub plain_of : (ℕ → Cell) → (ℕ → Member) → (out gone : List �
 plain_of cells members out gone = record { queue = λ y. (cells y).l; hand = λ r. (members r).hand; out = out; gone = gone }
 
 -- the queue that a change made at queue x names
-abbrev pub named_queue : Change → (x source : ℕ) → ℕ
-named_queue c x y = pick (change_row c).lands y x
+abbrev pub named_queue : Option Change → (x source : ℕ) → ℕ
+named_queue c x y = pick (lands_maybe c) y x
 
 pub update_id : {A : Type 0} (f : ℕ → A) (i j : ℕ) → update f i (f i) j ≡ f j
 update_id {A} f i j = update_elim f i (f i) (λ (v : A). v ≡ f j) j (λ e. ap f (sym e)) (λ _. refl)
 
 -- what a change does to the lists of all queues, and to all hands
-pub does_queue : (ks : ℕ → Kind) (p x : ℕ) (e : Change) (a : Plain) → Single e → (y : ℕ)
-    → (does ks p x e a).queue y ≡ update a.queue x (changed (ks x) p e (a.queue x)) y
+pub does_queue : (ks : ℕ → Kind) (p x : ℕ) (e : Option Change) (a : Plain) → Single e → (y : ℕ)
+    → (does_maybe ks p x e a).queue y ≡ update a.queue x (changed (ks x) p e (a.queue x)) y
 unfolding does
-does_queue ks p x Change.None a s y = sym (update_id a.queue x y)
-does_queue ks p x (Change.Offered t) a s y = refl
-does_queue ks p x Change.Accepted a s y = refl
-does_queue ks p x Change.Popped a s y = refl
-does_queue ks p x (Change.Booked k) a s y = refl
-does_queue ks p x (Change.Landed k) a s y = absurd (true≢false s)
-does_queue ks p x (Change.TakeLanded k) a s y = absurd (true≢false s)
-does_queue ks p x Change.Drained a s y = refl
-does_queue ks p x (Change.Dropped k) a s y = refl
-does_queue ks p x Change.Closed a s y = refl
+does_queue ks p x None a s y = sym (update_id a.queue x y)
+does_queue ks p x (Some (Change.Offered t)) a s y = refl
+does_queue ks p x (Some Change.Accepted) a s y = refl
+does_queue ks p x (Some Change.Popped) a s y = refl
+does_queue ks p x (Some (Change.Booked k)) a s y = refl
+does_queue ks p x (Some (Change.Landed k)) a s y = absurd (true≢false s)
+does_queue ks p x (Some (Change.TakeLanded k)) a s y = absurd (true≢false s)
+does_queue ks p x (Some Change.Drained) a s y = refl
+does_queue ks p x (Some (Change.Dropped k)) a s y = refl
+does_queue ks p x (Some Change.Closed) a s y = refl
 
-pub does_hand : (ks : ℕ → Kind) (p q : ℕ) (e : Change) (a : Plain) (r : ℕ)
-    → (does ks p q e a).hand r ≡ update a.hand p (handed (ks q) e (a.queue q) (a.hand p)) r
+pub does_hand : (ks : ℕ → Kind) (p q : ℕ) (e : Option Change) (a : Plain) (r : ℕ)
+    → (does_maybe ks p q e a).hand r ≡ update a.hand p (handed (ks q) e (a.queue q) (a.hand p)) r
 unfolding does
-does_hand ks p q Change.None a r = sym (update_id a.hand p r)
-does_hand ks p q (Change.Offered t) a r = sym (update_id a.hand p r)
-does_hand ks p q Change.Accepted a r = sym (update_id a.hand p r)
-does_hand ks p q Change.Popped a r = refl
-does_hand ks p q (Change.Booked k) a r = sym (update_id a.hand p r)
-does_hand ks p q (Change.Landed k) a r = sym (update_id a.hand p r)
-does_hand ks p q (Change.TakeLanded k) a r = refl
-does_hand ks p q Change.Drained a r = refl
-does_hand ks p q (Change.Dropped k) a r = sym (update_id a.hand p r)
-does_hand ks p q Change.Closed a r = sym (update_id a.hand p r)
+does_hand ks p q None a r = sym (update_id a.hand p r)
+does_hand ks p q (Some (Change.Offered t)) a r = sym (update_id a.hand p r)
+does_hand ks p q (Some Change.Accepted) a r = sym (update_id a.hand p r)
+does_hand ks p q (Some Change.Popped) a r = refl
+does_hand ks p q (Some (Change.Booked k)) a r = sym (update_id a.hand p r)
+does_hand ks p q (Some (Change.Landed k)) a r = sym (update_id a.hand p r)
+does_hand ks p q (Some (Change.TakeLanded k)) a r = refl
+does_hand ks p q (Some Change.Drained) a r = refl
+does_hand ks p q (Some (Change.Dropped k)) a r = sym (update_id a.hand p r)
+does_hand ks p q (Some Change.Closed) a r = sym (update_id a.hand p r)
 
-pub single_at : (e : Change) (x y : ℕ) → Single e → named_queue e x y ≡ x
+pub single_at : (e : Option Change) (x y : ℕ) → Single e → named_queue e x y ≡ x
 single_at e x y s = ap (λ (t : Bool). pick t y x) s
 
 -- the causes of an answer at place pl, by its reason: the own queue, the source, the source's lists after the step
@@ -117,8 +118,8 @@ CausesOf w fill pl c z l mark r =
     WhyOf (fill ≡ c.cap) (c.l.resting ≡ []) (Still w pl z.g → is_open l.holder ≡ true)
     ((z.l.resting ≡ []) ⊎ ((limit_at w pl ≡ 0) ⊎ RuleGaveZero w pl (words w z) mark)) r
 
-abbrev pub Causes : (w fill : ℕ) (pl : Place) (mine source : Cell) → Lists → Mark → Answer → Type 0
-Causes w fill pl c z l mark a = CausesOf w fill pl c z l mark (answer_row a).reason
+abbrev pub Causes : (w fill : ℕ) (pl : Place) (mine source : Cell) → Lists → Mark → Option Answer → Type 0
+Causes w fill pl c z l mark a = CausesOf w fill pl c z l mark (reason_of a)
 
 -- A step of party p at place pl, which made `o` of queue x and goes on with `nx`: the tables after it.
 pub record Ran (w n : ℕ) (cells : ℕ → Cell) (members : ℕ → Member) (p : ℕ) (pl : Place) (mark : Mark) (x : ℕ) (o : Accessed) (nx : Next) :
@@ -139,13 +140,13 @@ pub record Ran (w n : ℕ) (cells : ℕ → Cell) (members : ℕ → Member) (p 
       (r : ℕ) → (members' r).hand ≡ update (λ (z : ℕ). (members z).hand) p
       (hand_over nx.answer (handed (cells (named_queue nx.change x (source_of p pl))).kind nx.change
       (cells (named_queue nx.change x (source_of p pl))).l (members p).hand)) r
-  pub fair : in_front (handed_out nx.answer) (handed (cells (named_queue nx.change x (source_of p pl))).kind nx.change
+  pub fair : in_front (hands_maybe nx.answer) (handed (cells (named_queue nx.change x (source_of p pl))).kind nx.change
       (cells (named_queue nx.change x (source_of p pl))).l (members p).hand) ≡ true
-  pub can_s : can p (named_queue nx.change x (source_of p pl)) nx.change (cells (named_queue nx.change x (source_of p pl))).l ≡ true
+  pub can_s : can_maybe p (named_queue nx.change x (source_of p pl)) nx.change (cells (named_queue nx.change x (source_of p pl))).l ≡ true
   pub ls_are :
       (ks : ℕ → Kind) (out gone : List ℕ) → ks x ≡ (cells x).kind → (y : ℕ)
-      → (does ks p (named_queue nx.change x (source_of p pl)) nx.change (plain_of cells members out gone)).queue y ≡ (cells' y).l
-  pub moved_are : (y : ℕ) → (cells' y).g.moved ≡ update (λ (z : ℕ). (cells z).g.moved) x ((cells x).g.moved + moves_of nx.change) y
+      → (does_maybe ks p (named_queue nx.change x (source_of p pl)) nx.change (plain_of cells members out gone)).queue y ≡ (cells' y).l
+  pub moved_are : (y : ℕ) → (cells' y).g.moved ≡ update (λ (z : ℕ). (cells z).g.moved) x ((cells x).g.moved + moves_maybe nx.change) y
   pub start_s : (y : ℕ) → (cells' y).g.start ≡ (cells y).g.start
   pub still : (y : ℕ) → (cells' y).g.who ≡ noone → (cells y).g.moved + (cells' y).g.pops ≡ (cells' y).g.moved + (cells y).g.pops
   pub still_p : Still w pl (cells (source_of p pl)).g → Still w nx.place (cells' (source_of p nx.place)).g

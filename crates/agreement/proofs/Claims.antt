@@ -9,7 +9,7 @@ use Rattle.words.specs.Word.{orb}
 use Rattle.tables.specs.declared.call.Mark.{Mark}
 use Rattle.tables.specs.declared.state.Machine.{Machine}
 use Rattle.tables.specs.Machine.{queue_at}
-use Rattle.tables.specs.Answer.{Reason, nothing, none_rested, none_free, one_open, none_to_book, answer_row}
+use Rattle.tables.specs.Answer.{Reason, nothing, none_rested, none_free, one_open, none_to_book, reason_of}
 use Rattle.tables.specs.Rule.{ruled}
 use Rattle.tables.specs.Table.{rule_of}
 use Rattle.tables.specs.Step.{andb, place_at, source_at, step, alone}
@@ -68,7 +68,7 @@ abbrev pub step_holds : Run → ℕ → Mark → Bool
 step_holds r p k =
     andb (agreed (stepped 3 2 r p k))
     (caused r.machine p k (replayed r.machine r.record') (stepped 3 2 r p k).notes
-    (answer_row (step 3 2 r.machine r.items p k).answer).reason)
+    (reason_of (step 3 2 r.machine r.items p k).answer))
 
 unfoldable pub repeat_holds : ℕ → Run → ℕ → Bool
 repeat_holds zero r p = true

@@ -10,9 +10,9 @@ use lib.ListN.{take, get_or}
 use lib.Seq.{drop-length}
 use lib.Dec.{eqb}
 use borrow.Author.Tests.{eqb-true, eqb-false, eq-eqb, ne_eqb}
+use Rattle.std.specs.Prelude.{Some, None}
 use Rattle.words.specs.Word.{pick, orb, plus, minus, packed, high}
 use Rattle.tables.specs.declared.access.Seen.{Seen}
-use Rattle.tables.specs.declared.answer.Answer.TheVariants as Answer
 use Rattle.tables.specs.declared.answer.Change.TheVariants as Change
 use Rattle.tables.specs.declared.call.Mark.{Mark}
 use Rattle.tables.specs.declared.state.Drain.{Drain}
@@ -90,10 +90,10 @@ module _ (w p fm : ℕ) (items : List ℕ) (k : Kind) (d : Drain) (mark : Mark) 
             place = Place.Move (pick b (MovePlace.Land t (get_or s (plus w t.from j % cap) 0))
                 (MovePlace.WriteSlot t j (get_or s (plus w t.from j % cap) 0)));
             drain = d;
-            answer = Answer.Pending;
-            change = Change.None;
+            answer = None;
+            change = None;
           })
-      go true e = stays w p t.source fm (call p) items k d mark i _ _ Answer.Pending _ a (inr refl)
+      go true e = stays w p t.source fm (call p) items k d mark i _ _ None _ a (inr refl)
           (λ fill hand k₂ cap₂ s₂ g₂ l₂ o. (
             refl,
             record {
@@ -102,7 +102,7 @@ module _ (w p fm : ℕ) (items : List ℕ) (k : Kind) (d : Drain) (mark : Mark) 
               at = read_on t.transfer refl true e cap₂ s₂ g₂ o.at.0 o.at.1;
             },
           )) (λ z h. h) (λ _. tt) tt
-      go false e = stays w p t.source fm (call p) items k d mark i _ _ Answer.Pending _ a (inr refl)
+      go false e = stays w p t.source fm (call p) items k d mark i _ _ None _ a (inr refl)
           (λ fill hand k₂ cap₂ s₂ g₂ l₂ o. (
             refl,
             record {
@@ -118,7 +118,7 @@ in_front_lem : (ts : List ℕ) → in_front ts ts ≡ true
 in_front_lem [] = refl
 in_front_lem (t ∷ ts) = eq-eqb t t refl
 
-why_end : (f n b m : Type 0) (e : ClosingCall) → Why f n b m (answer_of e)
+why_end : (f n b m : Type 0) (e : ClosingCall) → Why f n b m (Some (answer_of e))
 why_end f n b m (ClosingCall.Steal s c) = tt
 why_end f n b m (ClosingCall.Take s t c) = tt
 why_end f n b m (ClosingCall.Next t) = tt
@@ -139,7 +139,7 @@ module _ (w p fm : ℕ) (items : List ℕ) (k : Kind) (d : Drain) (mark : Mark) 
   closed_on : (c : ClosePlace) (o : Accessed) → g.who ≡ closing_who p e → g.left ≡ 0 → o.queue ≡ words_of w k cap (closes g) → o.slots ≡ s
       → Whole w k cap s (closes g) (shut l)
       → SrcNext w p (closing_source p e) fm (closing_who p e) items k cap s g l d (Place.Close e c) mark o
-      (record { place = Place.Idle; drain = d; answer = answer_of e; change = Change.Closed })
+      (record { place = Place.Idle; drain = d; answer = Some (answer_of e); change = Some Change.Closed })
   unfolding closes shut can
   closed_on c o ew el eq es ok = record {
     g' = closes g;
@@ -184,9 +184,9 @@ module _ (w p fm : ℕ) (items : List ℕ) (k : Kind) (d : Drain) (mark : Mark) 
   -- a closing that goes on
   shuts_on : (c c' : ClosePlace) (y : Seen) → BkC w (closing_who p e) c' k g
       → SrcNext w p (closing_source p e) fm (closing_who p e) items k cap s g l d (Place.Close e c) mark (shows (words_of w k cap g) s y)
-      (record { place = Place.Close e c'; drain = d; answer = Answer.Pending; change = Change.None })
+      (record { place = Place.Close e c'; drain = d; answer = None; change = None })
   shuts_on c c' y f =
-      stays w p (closing_source p e) fm (closing_who p e) items k d mark i _ _ Answer.Pending y f (inr refl)
+      stays w p (closing_source p e) fm (closing_who p e) items k d mark i _ _ None y f (inr refl)
       (λ fill hand k₂ cap₂ s₂ g₂ l₂ o. (refl, record { wait_is = o.wait_is; hand_is = o.hand_is; at = tt })) (λ z h. h) (λ _. tt) tt
 
 pub close_step : (w p fm : ℕ) (items : List ℕ) (d : Drain) (mark : Mark) (kind from : Kind) (cap₂ : ℕ) (e : ClosingCall) (c : ClosePlace)

@@ -15,11 +15,10 @@ use Rattle.tables.specs.declared.place.Place.{Place}
 use Rattle.tables.specs.Tables.{source_of}
 use Rattle.tables.specs.Table.{limit_of}
 use Rattle.tables.specs.Step.{Outcome, place_at, source_at}
-use Rattle.tables.specs.Answer.{handed_out}
-use Rattle.tables.specs.Effect.{change_row}
-use Rattle.tables.specs.Lists.{is_open, Lists, Plain, update, does, in_front, lists, replay}
+use Rattle.tables.specs.Lists.{is_open, Lists, Plain, update, in_front, lists, replay}
 use Rattle.tables.specs.Causes.{is_first, is_first_load, PlacePremise, Premise}
 use Rattle.tables.proofs.Bools.{pick_if}
+use Rattle.tables.proofs.Maybe.{hands_maybe, lands_maybe, does_maybe}
 use Rattle.tables.proofs.Updates.{update_same}
 use Rattle.agreement.specs.Statement.{Run, did_entry, recorded, kinds_of}
 use Rattle.agreement.proofs.Nums.{Who, noone, call, drain, holder_of, Nums, head}
@@ -132,7 +131,7 @@ module _ (w : ℕ) (wide : 1 < w) {r : Run} (b : Good w r) (p : ℕ) (pn : p < r
 
   q_in : q < r.machine.parties
   q_in =
-      pick_if (λ (z : ℕ). z < r.machine.parties) (change_row next.change).lands (λ _. b.fits.sources p pn)
+      pick_if (λ (z : ℕ). z < r.machine.parties) (lands_maybe next.change) (λ _. b.fits.sources p pn)
       (λ _. site_in w r.machine r.items b.fits p pn mark)
 
   kind_at : (z : ℕ) → z < r.machine.parties → kinds_of r.machine z ≡ (b.cells z).kind
@@ -144,7 +143,7 @@ module _ (w : ℕ) (wide : 1 < w) {r : Run} (b : Good w r) (p : ℕ) (pn : p < r
   -- ---- the lists
 
   pub done : Plain
-  done = does (kinds_of r.machine) p q next.change a
+  done = does_maybe (kinds_of r.machine) p q next.change a
 
   pub done_is : replay (kinds_of r.machine) (did_entry after.effect r.record') ≡ lists done
   unfolding done a
@@ -171,7 +170,7 @@ module _ (w : ℕ) (wide : 1 < w) {r : Run} (b : Good w r) (p : ℕ) (pn : p < r
   unfolding in_hand_lem
   spoke =
       replay_said (kinds_of r.machine) p (did_entry after.effect r.record') done done_is next.answer
-      (subst (λ (h : List ℕ). in_front (handed_out next.answer) h ≡ true) (sym done_mine) ran.fair)
+      (subst (λ (h : List ℕ). in_front (hands_maybe next.answer) h ≡ true) (sym done_mine) ran.fair)
 
   spoke_hand : (z : ℕ) → spoke.plain.hand z ≡ (ran.members' z).hand
   unfolding in_hand_lem

@@ -1,24 +1,24 @@
 -- What a whole run keeps, since each step and each begin does (tables/proofs/Steps): a sound record, parties, kinds and capacities, the number
 -- of items; its record names its own parties only.
 use Prim.Native.Nat.{ℕ, zero, suc, ◌+◌, ◌<◌}
-use mathlib.Core.Path.{◌≡◌, refl, ap, fun_ext, ◌∙◌}
+use mathlib.Core.Path.{◌≡◌, refl, ap, subst, fun_ext, ◌∙◌}
 use mathlib.Core.Bool.{true}
 use mathlib.Core.List.{List, [], ◌∷◌}
 use native.Mathlib.Omega.{arith}
 use lib.ListN.{length}
+use Rattle.std.specs.Prelude.{Option, Some, None, IfSome}
+use Rattle.tables.specs.declared.answer.Answer.{Answer}
+use Rattle.tables.specs.declared.answer.Effect.{Effect}
 use Rattle.tables.specs.declared.call.Mark.{Mark}
-use Rattle.tables.specs.Answer.{is_pending}
-use Rattle.tables.specs.Effect.{is_none}
 use Rattle.tables.specs.Lists.{Plain, Entry, lists, replay}
 use Rattle.tables.specs.Step.{Outcome, sound, taken, alone}
-use Rattle.tables.proofs.Bools.{pick_if}
 use Rattle.tables.proofs.Sound.{sound_facts, Alike, alike_self, alike_after}
 use Rattle.tables.proofs.Refused.{step_needs, step_if}
 use Rattle.tables.proofs.Steps.{step_alike, step_length, step_sound, begin_alike, begin_items, begin_sound}
-use Rattle.tables.proofs.Effects.{effect_below}
+use Rattle.tables.proofs.Effects.{Names, effect_below}
 use Rattle.tables.proofs.OpenSound.{opening_sound}
 use Rattle.agreement.specs.Counts.{standing, count, offered}
-use Rattle.agreement.specs.Statement.{Line, begins, steps, alones, Run, did_entry, recorded, kinds_of, stepped, repeated, line, run_of, Fresh}
+use Rattle.agreement.specs.Statement.{Line, begins, steps, alones, Run, did_entry, said_entry, recorded, kinds_of, stepped, repeated, line, run_of, Fresh}
 use Rattle.agreement.proofs.Sum.{Below, sum}
 
 -- ---- what each step and each beginning keeps, the run does
@@ -71,12 +71,15 @@ module _ (w most : ℕ) where
 
   -- ---- the record names parties and queues of the machine
 
-  below_recorded : (n p : ℕ) (o : Outcome) (l : List Entry) → p < n → (o.effect.party < n) × (o.effect.queue < n) → Below n l
-      → Below n (recorded p o l)
+  below_did : (n : ℕ) (e : Option Effect) (l : List Entry) → IfSome e (Names n) → Below n l → Below n (did_entry e l)
   unfolding Below
-  below_recorded n p o l h e b =
-      let d : Below n (did_entry o.effect l) = pick_if (Below n) (is_none o.effect.change) (λ i. b) (λ i. (e, b)) in
-      pick_if (Below n) (is_pending o.answer) (λ i. d) (λ i. (h, d))
+  below_did n None l i b = b
+  below_did n (Some e) l i b = (i, b)
+
+  below_said : (n p : ℕ) (r : Option Answer) (l : List Entry) → p < n → Below n l → Below n (said_entry p r l)
+  unfolding Below
+  below_said n p None l h b = b
+  below_said n p (Some r) l h b = (h, b)
 
   stepped_below : (n : ℕ) (r : Run) (p : ℕ) (k : Mark) → (r.machine.parties ≡ n) × Below n r.record'
       → ((stepped w most r p k).machine.parties ≡ n) × Below n (stepped w most r p k).record'
@@ -85,10 +88,11 @@ module _ (w most : ℕ) where
     step_if w most r.machine p k r.items (λ (o : Outcome). Below n (recorded p o r.record'))
         (λ e.
         let c = step_needs w most r.machine p k (length r.items) e in
-        let b = effect_below w most r.machine r.items p k (length r.items)
-        (sound_facts w most r.machine (length r.items) c.sound_is) c.here in
-        below_recorded n p (taken w r.machine r.items p k) r.record' (omega (arith, h.0, c.here))
-        (omega (arith, h.0, b.0), omega (arith, h.0, b.1)) h.1)
+        let o = taken w r.machine r.items p k in
+        let b : IfSome o.effect (Names n) =
+        subst (λ (v : ℕ). IfSome o.effect (Names v)) h.0 (effect_below w most r.machine r.items p k (length r.items)
+        (sound_facts w most r.machine (length r.items) c.sound_is) c.here) in
+        below_said n p o.answer (did_entry o.effect r.record') (omega (arith, h.0, c.here)) (below_did n o.effect r.record' b h.1))
         (λ e. h.1),
   )
 

@@ -9,8 +9,8 @@ use native.Mathlib.Omega.{arith}
 use lib.ListN.{length, take, get_or}
 use lib.Dec.{eqb}
 use borrow.Author.Tests.{eq-eqb, lt-ltb, le-leb}
+use Rattle.std.specs.Prelude.{Some, None}
 use Rattle.words.specs.Word.{orb, plus, minus}
-use Rattle.tables.specs.declared.answer.Answer.TheVariants as Answer
 use Rattle.tables.specs.declared.call.Mark.{Mark}
 use Rattle.tables.specs.declared.state.Kind.{Kind}
 use Rattle.tables.specs.declared.state.Queue.{Queue}
@@ -43,7 +43,7 @@ module _ (w : ℕ) (t : BookedTokens) (some : 0 < t.count) (few : t.count < 2 ^ 
   one_less : minus w t.count 1 + 1 ≡ t.count
   one_less = diff w t.count 1 (small w few) (small w (omega arith)) some (omega arith)
 
-  land_at : (h : Transfer) (x y : ℕ) → named_queue (landed w h t) x y ≡ y
+  land_at : (h : Transfer) (x y : ℕ) → named_queue (Some (landed w h t)) x y ≡ y
   land_at Transfer.Steal x y = refl
   land_at Transfer.Take x y = refl
 
@@ -66,7 +66,7 @@ module _ (w : ℕ) (t : BookedTokens) (some : 0 < t.count) (few : t.count < 2 ^ 
 
   land_hand : (h : Transfer) (k : Kind) (l : Lists) (items hand : List ℕ) (last : ℕ) → hand ≡ [] → l.booked ≡ items
       → LastIs h t.count last items
-      → handed k (landed w h t) l hand ≡ handed_out (answer_of (ending w h t last))
+      → handed k (Some (landed w h t)) l hand ≡ handed_out (answer_of (ending w h t last))
   land_hand Transfer.Steal k l items hand last eh eb el = eh
   land_hand Transfer.Take k l items hand last eh eb el =
       ap₂ (λ (x : List ℕ) (v : ℕ). x ++ (v ∷ [])) eh (ap₂ (λ (b : List ℕ) (m : ℕ). get_or b m 0) eb (let z = one_less in omega arith)
@@ -218,7 +218,7 @@ module _ (w n : ℕ) {cells : ℕ → Cell} {members : ℕ → Member} (inv : MI
   }
 
   hand₂ : List ℕ
-  hand₂ = handed (cells t.source).kind (landed w t.transfer t) (cells t.source).l (members p).hand
+  hand₂ = handed (cells t.source).kind (Some (landed w t.transfer t)) (cells t.source).l (members p).hand
 
   m₂ : Member
   m₂ = record {
@@ -268,12 +268,12 @@ module _ (w n : ℕ) {cells : ℕ → Cell} {members : ℕ → Member} (inv : MI
       (record {
         place = Place.Close (ending w t.transfer t last) (closing (cells t.source).kind (plus w t.from t.count));
         drain = (members p).drain;
-        answer = Answer.Pending;
-        change = landed w t.transfer t;
+        answer = None;
+        change = Some (landed w t.transfer t);
       })
   unfolding cells₁ members₁ c₁ m₁ c₂ m₂ hand₂ place moves more
   land_go o eq es =
-      let q : named_queue (landed w t.transfer t) p t.source ≡ t.source = land_at w t some few t.transfer p t.source in
+      let q : named_queue (Some (landed w t.transfer t)) p t.source ≡ t.source = land_at w t some few t.transfer p t.source in
       let ew : (j : ℕ) → words w (cells₁ j) ≡ words w (cells j) =
       column_s (λ (c : Cell). words w c) cells t.source c₁ (sym
       (words_move w (cells t.source).kind (cells t.source).cap t.count (cells t.source).g
@@ -304,9 +304,9 @@ module _ (w n : ℕ) {cells : ℕ → Cell} {members : ℕ → Member} (inv : MI
         fill_are = column_over (λ (u : Member). u.fill) members p m₁ m₂ (members p).fill refl;
         hand_are =
             column_over (λ (u : Member). u.hand) members p m₁ m₂
-            (handed (cells (named_queue (landed w t.transfer t) p t.source)).kind (landed w t.transfer t)
-            (cells (named_queue (landed w t.transfer t) p t.source)).l (members p).hand)
-            (ap (λ (z : ℕ). handed (cells z).kind (landed w t.transfer t) (cells z).l (members p).hand) (sym q));
+            (handed (cells (named_queue (Some (landed w t.transfer t)) p t.source)).kind (Some (landed w t.transfer t))
+            (cells (named_queue (Some (landed w t.transfer t)) p t.source)).l (members p).hand)
+            (ap (λ (z : ℕ). handed (cells z).kind (Some (landed w t.transfer t)) (cells z).l (members p).hand) (sym q));
         fair = refl;
         can_s =
             subst (λ (z : ℕ). can p z (landed w t.transfer t) (cells z).l ≡ true) (sym q)

@@ -8,20 +8,21 @@ use borrow.Author.Tests.{leb-true, leb-false, le-leb, lt-leb, ltb-true}
 use lib.Dec.{leb, ltb}
 use lib.ListN.{length, take, drop, length-drop}
 use lib.Seq.{drop-drop, take-add}
+use Rattle.std.specs.Prelude.{Option, Some, None, IfSome}
 use Rattle.words.specs.Word.{pick}
+use Rattle.tables.specs.declared.answer.Answer.{Answer}
 use Rattle.tables.specs.declared.answer.Change.{Change}
 use Rattle.tables.specs.declared.answer.Effect.{Effect}
 use Rattle.tables.specs.declared.call.Mark.TheVariants as Mark
 use Rattle.tables.specs.declared.state.Kind.{Kind}
-use Rattle.tables.specs.Answer.{is_pending}
-use Rattle.tables.specs.Effect.{drops_of, is_none}
+use Rattle.tables.specs.Effect.{drops_of}
 use Rattle.tables.specs.Step.{andb, Outcome, alone, joined, appended, noted}
 use Rattle.tables.specs.Lists.{Lists, Plain, held_by, update, leave, does, can, Entry, did, said, Replayed, impossible, lists, replay_entry, replay_from, replay}
 use Rattle.tables.proofs.Bools.{and_left, and_right, pick_if}
 use Rattle.tables.proofs.Updates.{update_same, update_twice}
 use Rattle.tables.proofs.Refused.{step_if}
 use Rattle.tables.proofs.Rows.{dropped_is}
-use Rattle.tables.proofs.Effects.{dropped_own}
+use Rattle.tables.proofs.Effects.{Own, dropped_own}
 use Rattle.agreement.specs.Statement.{Run, kinds_of, did_entry, said_entry, stepped, repeated, singles, gathered, put_on, AloneAgrees}
 use Rattle.agreement.proofs.Alone.{singles_on, AsSingles, alone_is_singles}
 
@@ -95,10 +96,6 @@ module _ (ks : ℕ → Kind) (p q j k : ℕ) (a : Plain) where
 
 -- ---- a whole list of effects, put on a record
 
--- what is dropped, party p drops from its own queue
-abbrev pub Own : ℕ → Effect → Type 0
-Own p e = 0 < drops_of e.change → (e.party ≡ p) × (e.queue ≡ p)
-
 unfoldable pub AllOwn : ℕ → List Effect → Type 0
 AllOwn p [] = Unit {0}
 AllOwn p (e ∷ es) = Own p e × AllOwn p es
@@ -133,27 +130,29 @@ module _ (ks : ℕ → Kind) (p : ℕ) where
   appended_put l (x ∷ []) e all o = joined_put l x e all.0 o
   appended_put l (x ∷ y ∷ es) e all o = appended_put (did x ∷ l) (y ∷ es) e all.1 o
 
-  noted_put : (l : List Entry) (es : List Effect) (e : Effect) → AllOwn p es → Own p e
+  noted_put : (l : List Entry) (es : List Effect) (e : Option Effect) → AllOwn p es → IfSome e (Own p)
       → replay ks (put_on l (noted es e)) ≡ replay ks (did_entry e (put_on l es))
-  noted_put l es e all o = at (is_none e.change)
-    where
-      at : (t : Bool) → replay ks (put_on l (pick t es (appended es e))) ≡ replay ks (pick t (put_on l es) (did e ∷ put_on l es))
-      at true = refl
-      at false = appended_put l es e all o
+  noted_put l es None all o = refl
+  noted_put l es (Some e) all o = appended_put l es e all o
 
   -- an entry on top, or none: what is below matters by its lists alone
-  pub on_top : (t : Bool) (x : Entry) (l k : List Entry) → replay ks l ≡ replay ks k
-      → replay ks (pick t l (x ∷ l)) ≡ replay ks (pick t k (x ∷ k))
+  did_same : (e : Option Effect) (l k : List Entry) → replay ks l ≡ replay ks k → replay ks (did_entry e l) ≡ replay ks (did_entry e k)
   unfolding replay
-  on_top true x l k e = e
-  on_top false x l k e = ap (replay_from ks x) e
+  did_same None l k h = h
+  did_same (Some e) l k h = ap (replay_from ks (did e)) h
+
+  pub said_same : (r : Option Answer) (l k : List Entry) → replay ks l ≡ replay ks k
+      → replay ks (said_entry p r l) ≡ replay ks (said_entry p r k)
+  unfolding replay
+  said_same None l k h = h
+  said_same (Some r) l k h = ap (replay_from ks (said p r)) h
 
   singles_same : (os : List Outcome) (l k : List Entry) → replay ks l ≡ replay ks k
       → replay ks (singles_on l os) ≡ replay ks (singles_on k os)
   unfolding singles_on
   singles_same [] l k e = e
   singles_same (o ∷ os) l k e =
-      singles_same os (did_entry o.effect l) (did_entry o.effect k) (on_top (is_none o.effect.change) (did o.effect) l k e)
+      singles_same os (did_entry o.effect l) (did_entry o.effect k) (did_same o.effect l k e)
 
 own_appended : (p : ℕ) (es : List Effect) (e : Effect) → AllOwn p es → Own p e → AllOwn p (appended es e)
 unfolding appended AllOwn
@@ -163,19 +162,20 @@ own_appended p (x ∷ []) e all o =
     (λ h. ((λ i. o (ltb-true _ _ (and_right (ltb 0 (drops_of x.change)) (ltb 0 (drops_of e.change)) h))), tt)) (λ h. (all.0, (o, tt)))
 own_appended p (x ∷ y ∷ es) e all o = (all.0, own_appended p (y ∷ es) e all.1 o)
 
-own_noted : (p : ℕ) (es : List Effect) (e : Effect) → AllOwn p es → Own p e → AllOwn p (noted es e)
-own_noted p es e all o = pick_if (AllOwn p) (is_none e.change) (λ h. all) (λ h. own_appended p es e all o)
+own_noted : (p : ℕ) (es : List Effect) (e : Option Effect) → AllOwn p es → IfSome e (Own p) → AllOwn p (noted es e)
+own_noted p es None all o = all
+own_noted p es (Some e) all o = own_appended p es e all o
 
 unfoldable pub OwnSteps : ℕ → List Outcome → Type 0
 OwnSteps p [] = Unit {0}
-OwnSteps p (o ∷ os) = Own p o.effect × OwnSteps p os
+OwnSteps p (o ∷ os) = IfSome o.effect (Own p) × OwnSteps p os
 
 pub singles_own : (w most n : ℕ) (r : Run) (p : ℕ) → OwnSteps p (singles w most n r p)
 unfolding singles OwnSteps
 singles_own w most zero r p = tt
 singles_own w most (suc n) r p = (
-  step_if w most r.machine p Mark.Plain r.items (λ (o : Outcome). Own p o.effect) (λ e. dropped_own w r.machine r.items p Mark.Plain)
-      (λ e h. absurd (omega arith)),
+  step_if w most r.machine p Mark.Plain r.items (λ (o : Outcome). IfSome o.effect (Own p))
+      (λ e. dropped_own w r.machine r.items p Mark.Plain) (λ e. tt),
   singles_own w most n (stepped w most r p Mark.Plain) p,
 )
 
@@ -196,7 +196,7 @@ alone_record w most r p n ks =
     let b = alone w most r.machine r.items p n in
     let s : AsSingles w most r p b = alone_is_singles w most r p n in
     let os = singles w most b.steps r p in
-    on_top ks p (is_pending b.answer) (said p b.answer) (put_on r.record' b.effects) (singles_on r.record' os)
+    said_same ks p b.answer (put_on r.record' b.effects) (singles_on r.record' os)
     (ap (λ (es : List Effect). replay ks (put_on r.record' es)) s.effects
     ∙ gathered_put ks p os r.record' [] tt (singles_own w most b.steps r p))
     ∙ ap (replay ks) (sym s.record_is)

@@ -9,6 +9,7 @@ use native.Mathlib.Omega.{arith}
 use lib.ListN.{length, get_or}
 use lib.Dec.{eqb}
 use borrow.Author.Tests.{eqb-true, eqb-false, eq-eqb, ne_eqb, lt-ltb, le-leb}
+use Rattle.std.specs.Prelude.{Some, None}
 use Rattle.words.specs.Word.{pick, orb, plus}
 use Rattle.tables.specs.declared.answer.Answer.TheVariants as Answer
 use Rattle.tables.specs.declared.answer.Change.TheVariants as Change
@@ -114,8 +115,8 @@ module _ (w p fill : ℕ) (items hand : List ℕ) (from k : Kind) (mark : Mark) 
         (record {
           place = pick b (Place.Close (ClosingCall.Next (get_or s (d.at % cap) 0)) (closing k d.end)) Place.Idle;
           drain = record { at = plus w d.at 1; end = d.end };
-          answer = pick b Answer.Pending (Answer.Item (get_or s (d.at % cap) 0));
-          change = Change.Drained;
+          answer = pick b None (Some (Answer.Item (get_or s (d.at % cap) 0)));
+          change = Some Change.Drained;
         })
     unfolding moves leave can d₁
     next_on o true e = record {
@@ -171,8 +172,8 @@ module _ (w p fill : ℕ) (items hand : List ℕ) (from k : Kind) (mark : Mark) 
         (record {
           place = pick b (Place.Close ClosingCall.Drop (closing k d.end)) (Place.Own OwnPlace.DropItem);
           drain = record { at = plus w d.at 1; end = d.end };
-          answer = Answer.Pending;
-          change = Change.Dropped 1;
+          answer = None;
+          change = Some (Change.Dropped 1);
         })
     unfolding moves leave can d₁
     drop_on o true e = record {

@@ -9,6 +9,7 @@ use native.Mathlib.Omega.{arith}
 use lib.ListN.{get_or}
 use lib.Dec.{eqb}
 use borrow.Author.Tests.{eqb-true, eqb-false, eq-eqb}
+use Rattle.std.specs.Prelude.{Some, None}
 use Rattle.words.specs.Word.{pick, plus, packed, high, low, position}
 use Rattle.tables.specs.declared.access.Seen.{Seen}
 use Rattle.tables.specs.declared.answer.Answer.TheVariants as Answer
@@ -78,8 +79,8 @@ module _ (w p fill : ℕ) (items hand : List ℕ) (from : Kind) (d : Drain) (mar
   none_test : (q : ℕ) (y : Seen) → FPopB w cap g q → OwnF w fill items hand (Place.Fifo (FifoPlace.PopTail q)) Kind.Fifo cap s g l → (b : Bool)
       → eqb (g.pushed % 2 ^ w) (high w q) ≡ b
       → OwnNext w p fill items hand from Kind.Fifo cap s g l d (Place.Fifo (FifoPlace.PopTail q)) (shows (words_of w Kind.Fifo cap g) s y)
-      (pick b (record { place = Place.Idle; drain = d; answer = Answer.None; change = Change.None })
-      (record { place = Place.Fifo (FifoPlace.PopCas q); drain = d; answer = Answer.Pending; change = Change.None }))
+      (pick b (record { place = Place.Idle; drain = d; answer = Some Answer.None; change = None })
+      (record { place = Place.Fifo (FifoPlace.PopCas q); drain = d; answer = None; change = None }))
   none_test q y a o true e =
       stops w p items from Kind.Fifo i d fill fill hand (Place.Fifo (FifoPlace.PopTail q)) Answer.None y refl (calm_fifo p cap s (FifoPlace.PopTail q)) o refl
       (rest_none cap i.cap_pos i.joins
@@ -123,7 +124,7 @@ module _ (w p fill : ℕ) (items hand : List ℕ) (from : Kind) (d : Drain) (mar
         → OwnNext w p fill items hand from Kind.Fifo cap s g l d (Place.Fifo (FifoPlace.PopCas q))
         (shows (with_packed (words_of w Kind.Fifo cap g) (packed w (plus w (high w q) 1) (pick b (plus w (low w q) 1) (low w q)))) s
         (saw_packed (pair w (head g) g.completed) true))
-        (record { place = Place.Own (OwnPlace.PopRead (position (high w q))); drain = d; answer = Answer.Pending; change = Change.Popped })
+        (record { place = Place.Own (OwnPlace.PopRead (position (high w q))); drain = d; answer = None; change = Some Change.Popped })
     unfolding pop_first pop_past pop can
     pops true e o =
         let eq₂ : head g ≡ g.completed = same w (head g) g.completed high_now low_now (eqb-true (high w q) (low w q) e) (omega arith)
@@ -257,7 +258,7 @@ module _ (w p fill : ℕ) (items hand : List ℕ) (from : Kind) (d : Drain) (mar
     where
       go : (b : Bool) → OwnNext w p fill items hand from Kind.Fifo cap s g l d (Place.Fifo (FifoPlace.EmptyTail q))
           (shows (words_of w Kind.Fifo cap g) s (saw_word (g.pushed % 2 ^ w)))
-          (record { place = Place.Idle; drain = d; answer = pick b Answer.Yes Answer.No; change = Change.None })
+          (record { place = Place.Idle; drain = d; answer = Some (pick b Answer.Yes Answer.No); change = None })
       go true = stops w p items from Kind.Fifo i d fill fill hand _ Answer.Yes _ refl (calm_fifo p cap s _) o refl tt
       go false = stops w p items from Kind.Fifo i d fill fill hand _ Answer.No _ refl (calm_fifo p cap s _) o refl tt
 

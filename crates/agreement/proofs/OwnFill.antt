@@ -10,6 +10,7 @@ use native.Mathlib.Omega.{arith}
 use lib.ListN.{set}
 use lib.Dec.{ltb, eqb}
 use borrow.Author.Tests.{ltb-true, ltb-false, eqb-false, eq-eqb}
+use Rattle.std.specs.Prelude.{Option, Some, None}
 use Rattle.words.specs.Word.{pick, plus, minus}
 use Rattle.tables.specs.declared.access.Context.{Context}
 use Rattle.tables.specs.declared.access.Seen.{Seen}
@@ -29,6 +30,7 @@ use Rattle.tables.specs.Tables.{source_of}
 use Rattle.tables.specs.Answer.{handed_out}
 use Rattle.tables.specs.Lists.{Lists, offer, accept, can, in_front}
 use Rattle.tables.specs.Shows.{waits, own_waits, by_place}
+use Rattle.tables.proofs.Maybe.{hands_maybe}
 use Rattle.agreement.proofs.Wrap.{small, plus_is, diff}
 use Rattle.agreement.proofs.Ring.{tokens, tokens_zero, tokens_write}
 use Rattle.agreement.proofs.Nums.{noone, Nums, head, tail, Joins, more, joins_write, joins_offer, joins_accept}
@@ -48,13 +50,13 @@ pub record Calm (p cap : ℕ) (s : List ℕ) (pl : Place) : Type 0 where
 module _ (w p : ℕ) (items : List ℕ) (from k : Kind) {cap : ℕ} {s : List ℕ} {g : Nums} {l : Lists} (i : Whole w k cap s g l) (d : Drain)
   where
     -- a step that only loads, or answers
-    pub stay : (fill : ℕ) (hand : List ℕ) (pl pl' : Place) (a : Answer) (x : Seen) → in_front (handed_out a) hand ≡ true
+    pub stay : (fill : ℕ) (hand : List ℕ) (pl pl' : Place) (a : Option Answer) (x : Seen) → in_front (hands_maybe a) hand ≡ true
         → OwnF w fill items (hand_over a hand) pl' k cap s g l → source_of p pl' ≡ source_of p pl
         → ((fm : ℕ) (g₂ : Nums) (l₂ : Lists) → BkF w p fm items pl from g₂ l₂ → BkF w p fm items pl' from g₂ l₂)
         → ((y : ℕ) → held w p pl d y ≡ true → held w p pl' d y ≡ true) → ((g₂ : Nums) → Still w pl' g₂)
         → Why (fill ≡ cap) (l.resting ≡ []) ⊥ ⊥ a
         → OwnNext w p fill items hand from k cap s g l d pl (shows (words_of w k cap g) s x)
-        (record { place = pl'; drain = d; answer = a; change = Change.None })
+        (record { place = pl'; drain = d; answer = a; change = None })
     unfolding can
     stay fill hand pl pl' a x fr o sr b c st y = record {
       g' = g;
@@ -85,9 +87,9 @@ module _ (w p : ℕ) (items : List ℕ) (from k : Kind) {cap : ℕ} {s : List �
         → ((fm : ℕ) (g₂ : Nums) (l₂ : Lists) → BkF w p fm items pl' from g₂ l₂)
         → ((g₂ : Nums) → Still w pl' g₂)
         → OwnNext w p fill' items hand from k cap s g l d pl (shows (words_of w k cap g) s x)
-        (record { place = pl'; drain = d; answer = Answer.Pending; change = Change.None })
+        (record { place = pl'; drain = d; answer = None; change = None })
     goes fill fill' hand pl pl' x c c' a f sr b st =
-        stay fill' hand pl pl' Answer.Pending x refl
+        stay fill' hand pl pl' None x refl
         (record {
           wait_is = a.wait_is ∙ ap (tokens cap s (tail g)) (c.waits_no ∙ sym c'.waits_no);
           hand_is = a.hand_is ∙ c.hand_no ∙ sym c'.hand_no;
@@ -98,11 +100,11 @@ module _ (w p : ℕ) (items : List ℕ) (from k : Kind) {cap : ℕ} {s : List �
     -- a call ends, with nothing in hand
     pub stops : (fill fill' : ℕ) (hand : List ℕ) (pl : Place) (a : Answer) (x : Seen) → handed_out a ≡ [] → Calm p cap s pl
         → OwnF w fill items hand pl k cap s g l
-        → source_of p pl ≡ p → Why (fill' ≡ cap) (l.resting ≡ []) ⊥ ⊥ a
+        → source_of p pl ≡ p → Why (fill' ≡ cap) (l.resting ≡ []) ⊥ ⊥ (Some a)
         → OwnNext w p fill' items hand from k cap s g l d pl (shows (words_of w k cap g) s x)
-        (record { place = Place.Idle; drain = d; answer = a; change = Change.None })
+        (record { place = Place.Idle; drain = d; answer = Some a; change = None })
     stops fill fill' hand pl a x bare c o sr y =
-        stay fill' hand pl Place.Idle a x (rw bare refl)
+        stay fill' hand pl Place.Idle (Some a) x (rw bare refl)
         (record { wait_is = o.wait_is ∙ ap (tokens cap s (tail g)) c.waits_no; hand_is = rw bare (o.hand_is ∙ c.hand_no); at = tt })
         (sym sr) (λ fm g₂ l₂ _. tt) (λ z h. rw (c.holds_no z) at h) (λ g₂. tt) y
 
@@ -140,8 +142,8 @@ module _ (w p : ℕ) (items : List ℕ) (from k : Kind) {cap : ℕ} {s : List �
         where
           go : (b : Bool) → ltb (cap - 1) (minus w at hd) ≡ b
               → OwnNext w p fill items hand from k cap s g l d pl (shows (words_of w k cap g) s x)
-              (pick b (record { place = Place.Idle; drain = d; answer = Answer.Full t; change = Change.None })
-              (record { place = Place.Own (OwnPlace.PushWrite t word at); drain = d; answer = Answer.Pending; change = Change.None }))
+              (pick b (record { place = Place.Idle; drain = d; answer = Some (Answer.Full t); change = None })
+              (record { place = Place.Own (OwnPlace.PushWrite t word at); drain = d; answer = None; change = None }))
           go true e = stops fill₀ fill hand pl (Answer.Full t) x refl c o sr
               (let h : cap - 1 < minus w at hd = ltb-true (cap - 1) (minus w at hd) e in omega (arith, gap, a.fill_fits))
           go false e = goes fill₀ fill hand pl (Place.Own (OwnPlace.PushWrite t word at)) x c (calm_own (OwnPlace.PushWrite t word at) refl refl) o
@@ -167,8 +169,8 @@ module _ (w p : ℕ) (items : List ℕ) (from k : Kind) {cap : ℕ} {s : List �
               (record {
                 place = Place.Own (pick b (OwnPlace.ExtendStore pops at 0) (OwnPlace.ExtendMore pops at (plus w hd cap) 0));
                 drain = d;
-                answer = Answer.Pending;
-                change = Change.None;
+                answer = None;
+                change = None;
               })
           go true e = goes fill₀ fill hand pl (Place.Own (OwnPlace.ExtendStore pops at 0)) x c (calm_own (OwnPlace.ExtendStore pops at 0) refl refl) o ext
               (sym sr) (λ fm g₂ l₂. tt) (λ g₂. tt)
@@ -218,7 +220,7 @@ module _ (w p : ℕ) (items : List ℕ) (from k : Kind) {cap : ℕ} {s : List �
         → ((g₂ : Nums) → Still w pl' g₂)
         → OwnF w fill items hand pl k cap s g l → OwnP w fill items pl' k cap (set s (at % cap) t) g
         → OwnNext w p fill items hand from k cap s g l d pl (shows (words_of w k cap g) (set s (at % cap) t) nothing_seen)
-        (record { place = pl'; drain = d; answer = Answer.Pending; change = Change.Offered t })
+        (record { place = pl'; drain = d; answer = None; change = Some (Change.Offered t) })
     unfolding offer can
     offers fill hand pl pl' at j t e lt ej ej' eh eh' n n' sr b st o f =
         let es : at % cap ≡ (tail g + j) % cap = slot_of w k i (tail g + j) e in
@@ -261,12 +263,12 @@ module _ (w p : ℕ) (items : List ℕ) (from k : Kind) {cap : ℕ} {s : List �
         }
 
     -- j tokens wait past the tail: the store lets them in (also none)
-    pub stores : (fill : ℕ) (hand : List ℕ) (pl : Place) (v j : ℕ) (a : Answer) → handed_out a ≡ [] → Why (fill ≡ cap) (l.resting ≡ []) ⊥ ⊥ a
-        → v ≡ (g.pushed + j) % 2 ^ w → tail g + j ≤ g.completed + cap
+    pub stores : (fill : ℕ) (hand : List ℕ) (pl : Place) (v j : ℕ) (a : Answer) → handed_out a ≡ []
+        → Why (fill ≡ cap) (l.resting ≡ []) ⊥ ⊥ (Some a) → v ≡ (g.pushed + j) % 2 ^ w → tail g + j ≤ g.completed + cap
         → waits pl ≡ j → hand_in cap s pl ≡ [] → ((y : ℕ) → (by_place p pl y).holds ≡ false) → source_of p pl ≡ p
         → OwnF w fill items hand pl k cap s g l
         → OwnNext w p fill items hand from k cap s g l d pl (shows (with_pushes (words_of w k cap g) v) s nothing_seen)
-        (record { place = Place.Idle; drain = d; answer = a; change = Change.Accepted })
+        (record { place = Place.Idle; drain = d; answer = Some a; change = Some Change.Accepted })
     unfolding more accept can
     stores fill hand pl v j a bare y e le ej eh n sr o = record {
       g' = more j g;

@@ -9,10 +9,10 @@ use native.Mathlib.Omega.{arith}
 use lib.ListN.{length, get_or}
 use lib.Dec.{eqb}
 use borrow.Author.Tests.{eqb-true, eqb-false, eq-eqb}
+use Rattle.std.specs.Prelude.{Some, None}
 use Rattle.words.specs.Word.{pick, plus, minus, packed, high, low}
 use Rattle.tables.specs.declared.access.Seen.{Seen}
 use Rattle.tables.specs.declared.answer.Answer.TheVariants as Answer
-use Rattle.tables.specs.declared.answer.Change.TheVariants as Change
 use Rattle.tables.specs.declared.call.Mark.{Mark}
 use Rattle.tables.specs.declared.state.Drain.{Drain}
 use Rattle.tables.specs.declared.state.Kind.{Kind}
@@ -99,8 +99,8 @@ module _ (w p fill : ℕ) (items hand : List ℕ) (from : Kind) (d : Drain) (mar
       → OwnF w fill items hand (Place.Lifo x) Kind.Lifo cap s g l
       → (b : Bool) → eqb t (low w q) ≡ b
       → OwnNext w p fill items hand from Kind.Lifo cap s g l d (Place.Lifo x) (shows (words_of w Kind.Lifo cap g) s y)
-      (pick b (record { place = Place.Idle; drain = d; answer = Answer.None; change = Change.None })
-      (record { place = Place.Lifo (LifoPlace.PopCas q t); drain = d; answer = Answer.Pending; change = Change.None }))
+      (pick b (record { place = Place.Idle; drain = d; answer = Some Answer.None; change = None })
+      (record { place = Place.Lifo (LifoPlace.PopCas q t); drain = d; answer = None; change = None }))
   none_test x q t y sr a et o true e =
       stops w p items from Kind.Lifo i d fill fill hand (Place.Lifo x) Answer.None y refl (calm_lifo p cap s x) o sr
       (rest_none cap i.cap_pos i.joins
@@ -191,7 +191,7 @@ module _ (w p fill : ℕ) (items hand : List ℕ) (from : Kind) (d : Drain) (mar
     where
       go : (b : Bool) → OwnNext w p fill items hand from Kind.Lifo cap s g l d (Place.Lifo (LifoPlace.EmptyPacked n))
           (shows (words_of w Kind.Lifo cap g) s (saw_packed (pair w g.pops (head g)) true))
-          (record { place = Place.Idle; drain = d; answer = pick b Answer.Yes Answer.No; change = Change.None })
+          (record { place = Place.Idle; drain = d; answer = Some (pick b Answer.Yes Answer.No); change = None })
       go true = stops w p items from Kind.Lifo i d fill fill hand _ Answer.Yes _ refl (calm_lifo p cap s _) o refl tt
       go false = stops w p items from Kind.Lifo i d fill fill hand _ Answer.No _ refl (calm_lifo p cap s _) o refl tt
 

@@ -11,6 +11,7 @@ use lib.ListN.{length, take, get_or, set}
 use lib.Seq.{take-suc}
 use lib.Dec.{eqb}
 use borrow.Author.Tests.{eqb-true, eqb-false, eq-eqb}
+use Rattle.std.specs.Prelude.{Some, None}
 use Rattle.words.specs.Word.{pick, plus, position}
 use Rattle.tables.specs.declared.access.Access.TheVariants as Access
 use Rattle.tables.specs.declared.access.Context.{Context}
@@ -92,9 +93,9 @@ module _ (w p fill : ℕ) (items hand : List ℕ) (from k : Kind) (d : Drain) {c
       → OwnF w fill items hand (Place.Own (OwnPlace.ExtendMore pops at limit written)) k cap s g l
       → OwnNext w p fill items hand from k cap s g l d (Place.Own (OwnPlace.ExtendMore pops at limit written))
       (shows (words_of w k cap g) s nothing_seen)
-      (record { place = Place.Own (OwnPlace.ExtendStore pops at written); drain = d; answer = Answer.Pending; change = Change.None })
+      (record { place = Place.Own (OwnPlace.ExtendStore pops at written); drain = d; answer = None; change = None })
   ends_it pops at limit written a o =
-      stay w p items from k i d fill hand _ _ Answer.Pending _ refl (record { wait_is = o.wait_is; hand_is = o.hand_is; at = a.ext }) refl
+      stay w p items from k i d fill hand _ _ None _ refl (record { wait_is = o.wait_is; hand_is = o.hand_is; at = a.ext }) refl
       (λ fm g₂ l₂ _. tt) (λ y h. h) (λ g₂. tt) tt
 
   -- .. or carries a token
@@ -107,8 +108,8 @@ module _ (w p fill : ℕ) (items hand : List ℕ) (from k : Kind) (d : Drain) {c
         place = Place.Own (pick b (OwnPlace.ExtendStore pops (plus w at 1) (plus w written 1))
             (OwnPlace.ExtendMore pops (plus w at 1) limit (plus w written 1)));
         drain = d;
-        answer = Answer.Pending;
-        change = Change.Offered t;
+        answer = None;
+        change = Some (Change.Offered t);
       })
   carries_one pops at limit written t a o b e = go b e
     where
@@ -137,8 +138,8 @@ module _ (w p fill : ℕ) (items hand : List ℕ) (from k : Kind) (d : Drain) {c
             place = Place.Own (pick b (OwnPlace.ExtendStore pops (plus w at 1) (plus w written 1))
                 (OwnPlace.ExtendMore pops (plus w at 1) limit (plus w written 1)));
             drain = d;
-            answer = Answer.Pending;
-            change = Change.Offered t;
+            answer = None;
+            change = Some (Change.Offered t);
           })
       go true e =
           offers w p items from k i d fill hand _ (Place.Own (OwnPlace.ExtendStore pops (plus w at 1) (plus w written 1))) at written t
@@ -176,13 +177,13 @@ module _ (w p fill : ℕ) (items hand : List ℕ) (from k : Kind) (d : Drain) {c
       (plus_both w (tail g + written) a.pg a.at_is a.pops_is
       ∙ ap (λ (n : ℕ). n % 2 ^ w) (omega (arith, a.pushed_is))) a.fits refl refl (λ y. refl) refl o
   own_step mark (OwnPlace.PopRead at) f o =
-      stay w p items from k i d fill hand _ Place.Idle (Answer.Popped (get_or s (at.0 % cap) 0)) _
+      stay w p items from k i d fill hand _ Place.Idle (Some (Answer.Popped (get_or s (at.0 % cap) 0))) _
       (rw o.hand_is (eq-eqb (get_or s (at.0 % cap) 0) (get_or s (at.0 % cap) 0) refl))
       (record { wait_is = o.wait_is; hand_is = rw o.hand_is refl; at = tt }) refl (λ fm g₂ l₂ _. tt) (λ y h. h) (λ g₂. tt) tt
   own_step mark OwnPlace.NextItem f o = go (eqb d.at d.end) refl
     where
       go : (b : Bool) → eqb d.at d.end ≡ b → OwnStep w p fill items hand from k cap s g l d (Place.Own OwnPlace.NextItem) mark
-          (pick b (own Access.Touch then λ x. ends (context_of k cap from d mark) Answer.Done Change.None)
+          (pick b (own Access.Touch then λ x. ends (context_of k cap from d mark) Answer.Done None)
           (own Access.Read (position d.at) then λ x. drained w (context_of k cap from d mark) x.token))
       go true e = stops w p items from k i d fill fill hand _ Answer.Done _ refl
           (record { waits_no = refl; hand_no = refl; holds_no = λ y. refl }) o refl tt
@@ -191,7 +192,7 @@ module _ (w p fill : ℕ) (items hand : List ℕ) (from k : Kind) (d : Drain) {c
   own_step mark OwnPlace.DropItem f o = go (eqb d.at d.end) refl
     where
       go : (b : Bool) → eqb d.at d.end ≡ b → OwnStep w p fill items hand from k cap s g l d (Place.Own OwnPlace.DropItem) mark
-          (pick b (own Access.Touch then λ x. ends (context_of k cap from d mark) Answer.Closed Change.None)
+          (pick b (own Access.Touch then λ x. ends (context_of k cap from d mark) Answer.Closed None)
           (own Access.Read (position d.at) then λ x. dropping w (context_of k cap from d mark)))
       go true e = stops w p items from k i d fill fill hand _ Answer.Closed _ refl
           (record { waits_no = refl; hand_no = refl; holds_no = λ y. refl }) o refl tt
@@ -268,7 +269,12 @@ module _ (w p fill : ℕ) (items hand : List ℕ) (from k : Kind) (d : Drain) {c
       go : (b : Bool) → last_written w t.transfer t j ≡ b
           → OwnNext w p fill items hand from k cap s g l d (Place.Move (MovePlace.WriteSlot t j x))
           (shows (words_of w k cap g) (set s (plus w t.tail j % cap) x) nothing_seen)
-          (record { place = Place.Move (pick b (MovePlace.Land t 0) (MovePlace.ReadSlot t (plus w j 1))); drain = d; answer = Answer.Pending; change = Change.None })
+          (record {
+            place = Place.Move (pick b (MovePlace.Land t 0) (MovePlace.ReadSlot t (plus w j 1)));
+            drain = d;
+            answer = None;
+            change = None;
+          })
       go true e =
           let c = o.at.2 in
           record {

@@ -4,15 +4,16 @@ use mathlib.Core.Bool.{Bool, true, false}
 use mathlib.Core.List.{List, ◌∷◌}
 use Prim.Native.Nat.{ℕ, ◌+◌}
 use native.Mathlib.Omega.{arith}
+use Rattle.std.specs.Prelude.{Option, Some, None}
 use Rattle.words.specs.Word.{pick}
 use Rattle.tables.specs.declared.answer.Answer.{Answer}
 use Rattle.tables.specs.declared.answer.Change.{Change}
-use Rattle.tables.specs.declared.answer.Effect.{Effect}
 use Rattle.tables.specs.declared.state.Kind.{Kind}
-use Rattle.tables.specs.Effect.{no_effect, effect_of, moves_of}
+use Rattle.tables.specs.Effect.{effect_of}
 use Rattle.tables.specs.Answer.{handed_out}
 use Rattle.tables.specs.Lists.{Plain, update, does, can, hand_out, in_front, Entry, did, said, impossible, lists, replay_from, replay}
-use Rattle.tables.proofs.Rows.{answer_if, change_if}
+use Rattle.tables.specs.Causes.{moved_by}
+use Rattle.tables.proofs.Maybe.{hands_maybe, moves_maybe, can_maybe, does_maybe}
 use Rattle.agreement.specs.Statement.{did_entry, said_entry}
 use Rattle.agreement.proofs.Frame.{column}
 use Rattle.agreement.proofs.Steps.{hand_over}
@@ -25,19 +26,14 @@ unfolding replay
 did_one ks p q e l a r c = ap (replay_from ks (did (record { party = p; queue = q; change = e }))) r
     ∙ ap (λ (b : Bool). pick b (lists (does ks p q e a)) impossible) c
 
-pub replay_did : (ks : ℕ → Kind) (p x y : ℕ) (e : Change) (l : List Entry) (a : Plain) → replay ks l ≡ lists a
-    → can p (named_queue e x y) e (a.queue (named_queue e x y)) ≡ true
-    → replay ks (did_entry (effect_of p x y e) l) ≡ lists (does ks p (named_queue e x y) e a)
-unfolding does
-replay_did ks p x y c l a r =
-    change_if (λ (e : Change). can p (named_queue e x y) e (a.queue (named_queue e x y)) ≡ true
-    → replay ks (did_entry (effect_of p x y e) l) ≡ lists (does ks p (named_queue e x y) e a)) (λ _. r) (λ e n ok.
-    let d : Effect = record { party = p; queue = named_queue e x y; change = e } in
-    ap (λ (t : Bool). replay ks (did_entry (pick t no_effect d) l)) n ∙ ap (λ (t : Bool). replay ks (pick t l (did d ∷ l))) n
-    ∙ did_one ks p (named_queue e x y) e l a r ok) c
+pub replay_did : (ks : ℕ → Kind) (p x y : ℕ) (e : Option Change) (l : List Entry) (a : Plain) → replay ks l ≡ lists a
+    → can_maybe p (named_queue e x y) e (a.queue (named_queue e x y)) ≡ true
+    → replay ks (did_entry (effect_of p x y e) l) ≡ lists (does_maybe ks p (named_queue e x y) e a)
+replay_did ks p x y None l a r ok = r
+replay_did ks p x y (Some c) l a r ok = did_one ks p (named_queue (Some c) x y) c l a r ok
 
 -- the lists after an answer
-pub record Said (ks : ℕ → Kind) (p : ℕ) (r : Answer) (l : List Entry) (a : Plain) : Type 0 where
+pub record Said (ks : ℕ → Kind) (p : ℕ) (r : Option Answer) (l : List Entry) (a : Plain) : Type 0 where
   pub plain : Plain
   pub is : replay ks (said_entry p r l) ≡ lists plain
   pub queue_s : (y : ℕ) → plain.queue y ≡ a.queue y
@@ -48,16 +44,9 @@ module _ (ks : ℕ → Kind) (p : ℕ) (l : List Entry) (a : Plain) (e : replay 
   unfolding replay
   said_one r c = ap (replay_from ks (said p r)) e ∙ ap (λ (b : Bool). pick b (lists (hand_out p (handed_out r) a)) impossible) c
 
-  pub replay_said : (r : Answer) → in_front (handed_out r) (a.hand p) ≡ true → Said ks p r l a
-  replay_said =
-      answer_if (λ (r : Answer). in_front (handed_out r) (a.hand p) ≡ true → Said ks p r l a)
-      (λ c. record { plain = a; is = e; queue_s = λ y. refl; hand_s = λ z. sym (update_id a.hand p z) })
-      (λ r n c. record {
-        plain = hand_out p (handed_out r) a;
-        is = ap (λ (t : Bool). replay ks (pick t l (said p r ∷ l))) n ∙ said_one r c;
-        queue_s = λ y. refl;
-        hand_s = λ z. refl;
-      })
+  pub replay_said : (r : Option Answer) → in_front (hands_maybe r) (a.hand p) ≡ true → Said ks p r l a
+  replay_said None c = record { plain = a; is = e; queue_s = λ y. refl; hand_s = λ z. sym (update_id a.hand p z) }
+  replay_said (Some r) c = record { plain = hand_out p (handed_out r) a; is = said_one r c; queue_s = λ y. refl; hand_s = λ z. refl }
 
 pub plain_ext : (cells : ℕ → Cell) (members : ℕ → Member) (b : Plain) → ((y : ℕ) → b.queue y ≡ (cells y).l)
     → ((z : ℕ) → b.hand z ≡ (members z).hand)
@@ -74,21 +63,19 @@ pub pick_update : {A : Type 0} (b : Bool) (f : ℕ → A) (p : ℕ) (v : A) (z :
 pick_update true f p v z = refl
 pick_update false f p v z = sym (update_id f p z)
 
-nothing_at : (f : ℕ → ℕ) (q x y : ℕ) → update f q (f q + 0) y ≡ update f x (f x + 0) y
-nothing_at f q x y =
-    update_ext f f (λ z. refl) q (f q + 0) (f q) (omega arith) y ∙ update_id f q y
-    ∙ sym (update_ext f f (λ z. refl) x (f x + 0) (f x) (omega arith) y ∙ update_id f x y)
+nothing_at : (f : ℕ → ℕ) (x y : ℕ) → update f x (f x + 0) y ≡ f y
+nothing_at f x y = update_ext f f (λ z. refl) x (f x + 0) (f x) (omega arith) y ∙ update_id f x y
 
 -- what is popped or booked counts at the queue of the access
-pub notes_moved : (f : ℕ → ℕ) (p x s : ℕ) (e : Change) (y : ℕ)
-    → update f (effect_of p x s e).queue (f (effect_of p x s e).queue + moves_of (effect_of p x s e).change) y ≡ update f x (f x + moves_of e) y
-notes_moved f p x s Change.None y = nothing_at f 0 x y
-notes_moved f p x s (Change.Offered t) y = refl
-notes_moved f p x s Change.Accepted y = refl
-notes_moved f p x s Change.Popped y = refl
-notes_moved f p x s (Change.Booked k) y = refl
-notes_moved f p x s (Change.Landed k) y = nothing_at f s x y
-notes_moved f p x s (Change.TakeLanded k) y = nothing_at f s x y
-notes_moved f p x s Change.Drained y = refl
-notes_moved f p x s (Change.Dropped k) y = refl
-notes_moved f p x s Change.Closed y = refl
+pub notes_moved : (f : ℕ → ℕ) (p x s : ℕ) (e : Option Change) (y : ℕ)
+    → moved_by (effect_of p x s e) f y ≡ update f x (f x + moves_maybe e) y
+notes_moved f p x s None y = sym (nothing_at f x y)
+notes_moved f p x s (Some (Change.Offered t)) y = refl
+notes_moved f p x s (Some Change.Accepted) y = refl
+notes_moved f p x s (Some Change.Popped) y = refl
+notes_moved f p x s (Some (Change.Booked k)) y = refl
+notes_moved f p x s (Some (Change.Landed k)) y = nothing_at f s y ∙ sym (nothing_at f x y)
+notes_moved f p x s (Some (Change.TakeLanded k)) y = nothing_at f s y ∙ sym (nothing_at f x y)
+notes_moved f p x s (Some Change.Drained) y = refl
+notes_moved f p x s (Some (Change.Dropped k)) y = refl
+notes_moved f p x s (Some Change.Closed) y = refl

@@ -6,8 +6,8 @@ use mathlib.Core.List.{List, [], ◌∷◌}
 use Prim.Native.Nat.{ℕ, zero, suc, ◌<◌}
 use lib.ListN.{length}
 use borrow.Author.Tests.{ne_eqb}
+use Rattle.std.specs.Prelude.{None}
 use Rattle.words.specs.Word.{pick}
-use Rattle.tables.specs.declared.answer.Change.TheVariants as Change
 use Rattle.tables.specs.declared.call.Call.{Call}
 use Rattle.tables.specs.declared.call.Mark.{Mark}
 use Rattle.tables.specs.declared.state.Kind.{Kind}
@@ -73,7 +73,7 @@ module _ (w most : ℕ) (wide : 1 < w) where
             machine = r.machine;
             items = r.items;
             record' = r.record';
-            notes = pick t (notes r.machine p (replayed r.machine r.record') (replayed r.machine r.record') 0 Change.None
+            notes = pick t (notes r.machine p (replayed r.machine r.record') (replayed r.machine r.record') None
                 r.notes) r.notes;
           })) (sym (ne_eqb _ 0 e)) b
 

@@ -12,7 +12,7 @@ use Rattle.tables.specs.declared.state.Drain.{Drain}
 use Rattle.tables.specs.declared.place.Place.{Place}
 use Rattle.tables.specs.Access.{Accessed}
 use Rattle.tables.specs.Tables.{source_of}
-use Rattle.tables.specs.Answer.{answer_row, handed_out}
+use Rattle.tables.specs.Answer.{reason_of}
 use Rattle.tables.specs.Lists.{party, update, in_front}
 use Rattle.tables.specs.Causes.{is_first_load, is_head_load}
 use Rattle.tables.proofs.Updates.{update_elim, update_same}
@@ -20,6 +20,7 @@ use Rattle.agreement.proofs.Nums.{Who, noone, call, drain, holder_of}
 use Rattle.agreement.proofs.Frame.{after, frame}
 use Rattle.agreement.proofs.Facts.{OwnF, BkF, DrnF, held}
 use Rattle.agreement.proofs.Stable.{own_stable, bkr_stable, drn_stable}
+use Rattle.tables.proofs.Maybe.{hands_maybe}
 use Rattle.agreement.proofs.Steps.{changed, items_after, hand_over, Still, SrcNext}
 use Rattle.agreement.proofs.Cells.{Cell, Member, Ok, src, Own, Bkr, Drn, Claim, MInv, Causes, Ran}
 use Rattle.agreement.proofs.Turns.{call_some, drain_some, other, why_map, fm₁, fill₁, member₁, ran_one}
@@ -57,12 +58,12 @@ module _ (w n : ℕ) {cells : ℕ → Cell} {members : ℕ → Member} (inv : MI
       (λ r ne f h. f (ap holder_of (t.who_new t.g'.who (λ z. no_party r (sym (ap holder_of z) ∙ h)) (other p r me t.g'.who em h ne)
       refl) ∙ h)))
       (sym t.q_is) (sym t.slots_s) refl t.single t.moved_s t.rb.start_s t.still (still' t.src_s) t.src_s
-      (subst (λ (h : List ℕ). in_front (handed_out nx.answer) h ≡ true) (sym (t.hand_s (members p).hand)) own'.0) t.can_s
+      (subst (λ (h : List ℕ). in_front (hands_maybe nx.answer) h ≡ true) (sym (t.hand_s (members p).hand)) own'.0) t.can_s
       (subst (λ (y : ℕ). Causes w (fill₁ w n cells members p pl mark x o nx) pl (cells p) (cells y) (update cells x c₂ y).l mark
       nx.answer) (sym ex)
       (subst (λ (c : Cell). Causes w (fill₁ w n cells members p pl mark x o nx) pl (cells p) (cells x) c.l mark nx.answer)
       (sym (update_same cells x c₂))
-      (why_map (answer_row nx.answer).reason (λ a. absurd a) (λ a. absurd a) (λ a. a) (λ a. a) t.why)))
+      (why_map (reason_of nx.answer) (λ a. absurd a) (λ a. absurd a) (λ a. a) (λ a. a) t.why)))
     where
       c₂ : Cell
       c₂ = record {
@@ -79,7 +80,7 @@ module _ (w n : ℕ) {cells : ℕ → Cell} {members : ℕ → Member} (inv : MI
       no_party : (r : ℕ) → holder_of noone ≡ party r → ⊥
       no_party r e = let z : ◌≡◌ {A = ℕ} 0 1 = cc in omega arith
 
-      own' : (in_front (handed_out nx.answer) (members p).hand ≡ true)
+      own' : (in_front (hands_maybe nx.answer) (members p).hand ≡ true)
           × OwnF w (members p).fill (items_after nx.change (cells x).l (members p).items) (hand_over nx.answer (members p).hand)
           nx.place (update cells x c₂ p).kind (update cells x c₂ p).cap (update cells x c₂ p).s (update cells x c₂ p).g
           (update cells x c₂ p).l

@@ -5,6 +5,7 @@ use mathlib.Core.Bool.{true, false}
 use mathlib.Core.List.{List, [], ◌∷◌, ◌++◌}
 use Prim.Native.Nat.{ℕ, ◌+◌, ◌%◌, ◌^◌}
 use lib.ListN.{length, take, drop, get_or}
+use Rattle.std.specs.Prelude.{Option, Some, None}
 use Rattle.words.specs.Word.{low}
 use Rattle.tables.specs.declared.access.Next.{Next}
 use Rattle.tables.specs.declared.answer.Answer.{Answer}
@@ -18,57 +19,58 @@ use Rattle.tables.specs.declared.place.Place.{Place}
 use Rattle.tables.specs.Access.{Accessed}
 use Rattle.tables.specs.Table.{limit_of}
 use Rattle.tables.specs.Tables.{source_of}
-use Rattle.tables.specs.Answer.{Reason, nothing, none_rested, none_free, one_open, none_to_book, answer_row, handed_out}
-use Rattle.tables.specs.Lists.{party, is_open, Lists, offer, accept, pop, pop_from, book, leave, shut, can, in_front}
-use Rattle.tables.specs.Effect.{change_row, moves_of}
+use Rattle.tables.specs.Answer.{Reason, nothing, none_rested, none_free, one_open, none_to_book, reason_of}
+use Rattle.tables.specs.Lists.{party, is_open, Lists, offer, accept, pop, pop_from, book, leave, shut, in_front}
 use Rattle.tables.specs.Causes.{at_booking, RuleGaveZero}
+use Rattle.tables.proofs.Maybe.{hands_maybe, moves_maybe, lands_maybe, can_maybe}
 use Rattle.agreement.proofs.Nums.{Who, noone, drain, holder_of, Nums, head}
 use Rattle.agreement.proofs.Whole.{Whole, words_of, RO, RB, RH}
 use Rattle.agreement.proofs.Facts.{OwnF, BkF, DrnF, held}
 
--- a change of the lists of its one queue (a landing is no such change), of the tokens in hand, of the ghost copy of what was booked
-abbrev pub changed : Kind → ℕ → Change → Lists → Lists
-changed k p Change.None l = l
-changed k p (Change.Offered t) l = offer t l
-changed k p Change.Accepted l = accept l
-changed k p Change.Popped l = pop k l
-changed k p (Change.Booked n) l = book p n l
-changed k p (Change.Landed n) l = l
-changed k p (Change.TakeLanded n) l = l
-changed k p Change.Drained l = leave 1 l
-changed k p (Change.Dropped n) l = leave n l
-changed k p Change.Closed l = shut l
+-- a change, if any, of the lists of its one queue (a landing is no such change), of the tokens in hand, of the ghost copy of what was
+-- booked
+abbrev pub changed : Kind → ℕ → Option Change → Lists → Lists
+changed k p None l = l
+changed k p (Some (Change.Offered t)) l = offer t l
+changed k p (Some Change.Accepted) l = accept l
+changed k p (Some Change.Popped) l = pop k l
+changed k p (Some (Change.Booked n)) l = book p n l
+changed k p (Some (Change.Landed n)) l = l
+changed k p (Some (Change.TakeLanded n)) l = l
+changed k p (Some Change.Drained) l = leave 1 l
+changed k p (Some (Change.Dropped n)) l = leave n l
+changed k p (Some Change.Closed) l = shut l
 
-abbrev pub handed : Kind → Change → Lists → List ℕ → List ℕ
-handed k Change.None l h = h
-handed k (Change.Offered t) l h = h
-handed k Change.Accepted l h = h
-handed k Change.Popped l h = h ++ (pop_from k l.resting ∷ [])
-handed k (Change.Booked n) l h = h
-handed k (Change.Landed n) l h = h
-handed k (Change.TakeLanded n) l h = h ++ (get_or l.booked n 0 ∷ [])
-handed k Change.Drained l h = h ++ (get_or l.booked 0 0 ∷ [])
-handed k (Change.Dropped n) l h = h
-handed k Change.Closed l h = h
+abbrev pub handed : Kind → Option Change → Lists → List ℕ → List ℕ
+handed k None l h = h
+handed k (Some (Change.Offered t)) l h = h
+handed k (Some Change.Accepted) l h = h
+handed k (Some Change.Popped) l h = h ++ (pop_from k l.resting ∷ [])
+handed k (Some (Change.Booked n)) l h = h
+handed k (Some (Change.Landed n)) l h = h
+handed k (Some (Change.TakeLanded n)) l h = h ++ (get_or l.booked n 0 ∷ [])
+handed k (Some Change.Drained) l h = h ++ (get_or l.booked 0 0 ∷ [])
+handed k (Some (Change.Dropped n)) l h = h
+handed k (Some Change.Closed) l h = h
 
-abbrev pub Single : Change → Type 0
-Single c = (change_row c).lands ≡ false
+abbrev pub Single : Option Change → Type 0
+Single c = lands_maybe c ≡ false
 
-abbrev pub items_after : Change → Lists → List ℕ → List ℕ
-items_after Change.None l x = x
-items_after (Change.Offered t) l x = x
-items_after Change.Accepted l x = x
-items_after Change.Popped l x = x
-items_after (Change.Booked n) l x = take n l.resting
-items_after (Change.Landed n) l x = x
-items_after (Change.TakeLanded n) l x = x
-items_after Change.Drained l x = x
-items_after (Change.Dropped n) l x = x
-items_after Change.Closed l x = x
+abbrev pub items_after : Option Change → Lists → List ℕ → List ℕ
+items_after None l x = x
+items_after (Some (Change.Offered t)) l x = x
+items_after (Some Change.Accepted) l x = x
+items_after (Some Change.Popped) l x = x
+items_after (Some (Change.Booked n)) l x = take n l.resting
+items_after (Some (Change.Landed n)) l x = x
+items_after (Some (Change.TakeLanded n)) l x = x
+items_after (Some Change.Drained) l x = x
+items_after (Some (Change.Dropped n)) l x = x
+items_after (Some Change.Closed) l x = x
 
--- an answer hands out what it names
-abbrev pub hand_over : Answer → List ℕ → List ℕ
-hand_over a h = drop (length (handed_out a)) h
+-- an answer, if any, hands out what it names
+abbrev pub hand_over : Option Answer → List ℕ → List ℕ
+hand_over a h = drop (length (hands_maybe a)) h
 
 -- ---- the causes: an answer's, given those of full, none, busy and empty
 
@@ -79,8 +81,8 @@ WhyOf f n b e none_free = f
 WhyOf f n b e one_open = b
 WhyOf f n b e none_to_book = e
 
-abbrev pub Why : (full none busy empty : Type 0) → Answer → Type 0
-Why f n b e a = WhyOf f n b e (answer_row a).reason
+abbrev pub Why : (full none busy empty : Type 0) → Option Answer → Type 0
+Why f n b e a = WhyOf f n b e (reason_of a)
 
 -- a LIFO booking whose loaded head is the head still
 abbrev pub BookStill : ℕ → BookPlace → Nums → Type 0
@@ -123,7 +125,7 @@ pub record OwnNext (w p fill : ℕ) (items hand : List ℕ) (from k : Kind) (cap
   pub q_is : o.queue ≡ words_of w k cap g'
   pub ok : Whole w k cap o.slots g' (changed k p n.change l)
   pub own : OwnF w fill items (hand_over n.answer (handed k n.change l hand)) n.place k cap o.slots g' (changed k p n.change l)
-  pub fair : in_front (handed_out n.answer) (handed k n.change l hand) ≡ true
+  pub fair : in_front (hands_maybe n.answer) (handed k n.change l hand) ≡ true
   pub src_s : source_of p n.place ≡ source_of p pl
   pub bkr :
       ((actor ≡ noone) × ((fm : ℕ) (g₂ : Nums) (l₂ : Lists) → BkF w p fm items pl from g₂ l₂ → BkF w p fm items n.place from g₂ l₂))
@@ -133,11 +135,11 @@ pub record OwnNext (w p fill : ℕ) (items hand : List ℕ) (from k : Kind) (cap
   pub rh : (r : Who) → r ≢ noone → r ≢ actor → g.who ≡ r → RH g l g' (changed k p n.change l)
   pub who_s : g'.who ≡ g.who
   pub claim : (y : ℕ) → held w p pl d y ≡ true → held w p n.place n.drain y ≡ true
-  pub moved_s : g'.moved ≡ g.moved + moves_of n.change
+  pub moved_s : g'.moved ≡ g.moved + moves_maybe n.change
   pub still : g'.who ≡ noone → g.moved + g'.pops ≡ g'.moved + g.pops
   pub still_n : (g₂ : Nums) → Still w n.place g₂
   pub single : Single n.change
-  pub can_s : can p p n.change l ≡ true
+  pub can_s : can_maybe p p n.change l ≡ true
   pub why : Why (fill ≡ cap) (l.resting ≡ []) ⊥ ⊥ n.answer
 
 -- On queue x, party p's source, as its booker or holder `me`.
@@ -152,7 +154,7 @@ pub record SrcNext (w p x fm : ℕ) (me : Who) (items : List ℕ) (k : Kind) (ca
   pub src_s : (n.place ≡ Place.Idle) ⊎ (source_of p n.place ≡ source_of p pl)
   pub dst :
       (fill : ℕ) (hand : List ℕ) (k₂ : Kind) (cap₂ : ℕ) (s₂ : List ℕ) (g₂ : Nums) (l₂ : Lists) → OwnF w fill items hand pl k₂ cap₂ s₂ g₂ l₂
-      → (in_front (handed_out n.answer) hand ≡ true)
+      → (in_front (hands_maybe n.answer) hand ≡ true)
       × OwnF w fill (items_after n.change l items) (hand_over n.answer hand) n.place k₂ cap₂ s₂ g₂ l₂
   pub hand_s : (hand : List ℕ) → handed k n.change l hand ≡ hand
   pub drn : DrnF w p d g → DrnF w p n.drain g'
@@ -164,11 +166,11 @@ pub record SrcNext (w p x fm : ℕ) (me : Who) (items : List ℕ) (k : Kind) (ca
   pub claim_x : (holder_of g.who ≡ party p → held w p pl d x ≡ true) → holder_of g'.who ≡ party p
       → held w p n.place n.drain x ≡ true
   pub claim_y : (y : ℕ) → y ≢ x → held w p pl d y ≡ true → held w p n.place n.drain y ≡ true
-  pub moved_s : g'.moved ≡ g.moved + moves_of n.change
+  pub moved_s : g'.moved ≡ g.moved + moves_maybe n.change
   pub still : g'.who ≡ noone → g.moved + g'.pops ≡ g'.moved + g.pops
   pub still_n : Still w pl g → Still w n.place g'
   pub single : Single n.change
-  pub can_s : can p x n.change l ≡ true
+  pub can_s : can_maybe p x n.change l ≡ true
   pub why :
       Why ⊥ ⊥ (Still w pl g → is_open (changed k p n.change l).holder ≡ true)
       ((l.resting ≡ []) ⊎ ((limit_at w pl ≡ 0) ⊎ RuleGaveZero w pl (words_of w k cap g) mark)) n.answer

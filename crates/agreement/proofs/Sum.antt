@@ -7,6 +7,7 @@ use mathlib.Core.List.{List, [], ◌∷◌, ◌++◌}
 use native.Mathlib.Omega.{arith}
 use borrow.Author.Tests.{eqb-true, ltb-true, not-true}
 use lib.Dec.{eqb, leb, ltb}
+use Rattle.std.specs.Prelude.{Option, Some, None}
 use lib.ListN.{length, take, drop, get_or}
 use Rattle.words.specs.Word.{pick}
 use Rattle.tables.specs.declared.answer.Answer.{Answer}
@@ -14,7 +15,7 @@ use Rattle.tables.specs.declared.answer.Change.{Change}
 use Rattle.tables.specs.declared.answer.Values.{Values}
 use Rattle.tables.specs.declared.state.Kind.{Kind}
 use Rattle.tables.specs.Step.{andb}
-use Rattle.tables.specs.Answer.{answer_row, tokens_of, handed_out}
+use Rattle.tables.specs.Answer.{answer_row, listed, tokens_of, handed_out}
 use Rattle.tables.specs.Lists.{Holder, nobody, party, is_open, held_by, Lists, Plain, nothing_yet, update, offer, accept, pop_from, pop, book, leave, arrive, shut, on_queue, lands}
 use Rattle.tables.specs.Lists.{does, is_nil, can, hand_out, in_front, Entry, did, said, Replayed, impossible, lists, replay_entry, replay_from, replay}
 use Rattle.tables.proofs.Bools.{and_left, and_right, pick_if}
@@ -52,7 +53,6 @@ module _ (t n : ℕ) (ks : ℕ → Kind) (p q : ℕ) (hp : p < n) (hq : q < n) (
 
   pub total_does : (d : Change) → can p q d l ≡ true → total t (does ks p q d a) n ≡ total t a n + offers t d
   unfolding does can Tidy count
-  total_does Change.None c = omega arith
   total_does (Change.Offered u) c = omega (arith, on_queue_lem t n a q (offer u l) hq, in_offer t u l)
   total_does Change.Accepted c = omega (arith, on_queue_lem t n a q (accept l) hq, in_accept t l)
   total_does Change.Popped c =
@@ -125,7 +125,6 @@ module _ (t n : ℕ) (ks : ℕ → Kind) (p q : ℕ) (hp : p < n) (hq : q < n) (
 
   pub tidy_does : (d : Change) → can p q d l ≡ true → Tidy (does ks p q d a)
   unfolding does can Tidy offer accept pop book shut
-  tidy_does Change.None c = tidy
   tidy_does (Change.Offered u) c = λ i. update_if a.queue q TidyLists (offer u l) i (λ e. tidy q) (tidy i)
   tidy_does Change.Accepted c = λ i. update_if a.queue q TidyLists (accept l) i (λ e. tidy q) (tidy i)
   tidy_does Change.Popped c = λ i. update_if a.queue q TidyLists (pop (ks q) l) i (λ e. tidy q) (tidy i)
@@ -140,11 +139,12 @@ module _ (t n : ℕ) (ks : ℕ → Kind) (p q : ℕ) (hp : p < n) (hq : q < n) (
 
 -- ---- a token handed out
 
+listed_short : (o : Option ℕ) → length (listed o) ≤ 1
+listed_short None = omega arith
+listed_short (Some n) = omega arith
+
 values_short : (v : Values) → length (tokens_of v) ≤ 1
-values_short Values.None = omega arith
-values_short (Values.Token u) = omega arith
-values_short (Values.Count k) = omega arith
-values_short (Values.Both u k) = omega arith
+values_short v = listed_short v.token
 
 handed_short : (r : Answer) → length (handed_out r) ≤ 1
 handed_short r =

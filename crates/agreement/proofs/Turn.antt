@@ -2,9 +2,9 @@
 -- is asked of booking places alone.
 use mathlib.Core.Path.{◌≡◌, refl, sym, subst}
 use Prim.Native.Nat.{ℕ, ◌+◌, ◌^◌, ◌<◌}
+use Rattle.std.specs.Prelude.{None}
 use Rattle.tables.specs.declared.access.Context.{Context}
 use Rattle.tables.specs.declared.access.Whose.{Whose}
-use Rattle.tables.specs.declared.answer.Answer.TheVariants as Answer
 use Rattle.tables.specs.declared.call.Mark.{Mark}
 use Rattle.tables.specs.declared.place.BookPlace.{BookPlace}
 use Rattle.tables.specs.declared.place.BookingCall.{BookingCall}
@@ -93,7 +93,7 @@ module _ (w half n : ℕ) (two : 2 ^ w ≡ half + half) {cells : ℕ → Cell} {
       own_go w n inv p Place.Idle mark e₁ e₂ _ _
       (let o = facts Place.Idle e₁ in
       stay w p (members p).items (cells p).kind (cells p).kind (inv.ok p) (members p).drain (members p).fill (members p).hand
-      Place.Idle Place.Idle Answer.Pending _ refl
+      Place.Idle Place.Idle None _ refl
       (record { wait_is = o.wait_is; hand_is = o.hand_is; at = tt }) refl (λ fm g₂ l₂ _. tt) (λ y h. h) (λ g₂. tt) tt) refl
   step_go (Place.Lifo x) e₁ e₂ pr =
       at_site (Place.Lifo x) (lifo_row w (context_at cells members p (Place.Lifo x) mark) x) Whose.Own (lifo_mine w (context_at cells members p (Place.Lifo x) mark) x)

@@ -12,11 +12,11 @@ use Rattle.tables.specs.declared.state.Kind.{Kind}
 use Rattle.tables.specs.declared.place.Place.{Place}
 use Rattle.tables.specs.Access.{Accessed}
 use Rattle.tables.specs.Tables.{source_of}
-use Rattle.tables.specs.Answer.{Reason, nothing, none_rested, none_free, one_open, none_to_book, answer_row, handed_out}
-use Rattle.tables.specs.Lists.{party, Lists, update, does, can, in_front}
-use Rattle.tables.specs.Effect.{moves_of}
+use Rattle.tables.specs.Answer.{Reason, nothing, none_rested, none_free, one_open, none_to_book, reason_of}
+use Rattle.tables.specs.Lists.{party, Lists, update, in_front}
 use Rattle.tables.specs.Causes.{is_first_load, is_head_load, fill_of}
 use Rattle.agreement.proofs.Nums.{Who, noone, call, drain, holder_of, Nums}
+use Rattle.tables.proofs.Maybe.{hands_maybe, moves_maybe, can_maybe, does_maybe}
 use Rattle.tables.proofs.Updates.{update_elim, update_same}
 use Rattle.agreement.proofs.Frame.{column, column_s, after, frame}
 use Rattle.agreement.proofs.Facts.{BkF, held}
@@ -69,11 +69,11 @@ module _ (w n : ℕ) (cells : ℕ → Cell) (members : ℕ → Member) (p : ℕ)
   pub ran_one : (c₂ : Cell) (items : List ℕ) → MInv w n (update cells x c₂) (update members p (member₁ items)) → words w c₂ ≡ o.queue
       → c₂.s ≡ o.slots
       → c₂.l ≡ changed (cells x).kind p nx.change (cells x).l → Single nx.change
-      → c₂.g.moved ≡ (cells x).g.moved + moves_of nx.change → c₂.g.start ≡ (cells x).g.start
+      → c₂.g.moved ≡ (cells x).g.moved + moves_maybe nx.change → c₂.g.start ≡ (cells x).g.start
       → (c₂.g.who ≡ noone → (cells x).g.moved + c₂.g.pops ≡ c₂.g.moved + (cells x).g.pops)
       → (Still w pl (cells (source_of p pl)).g → Still w nx.place (update cells x c₂ (source_of p nx.place)).g)
       → (nx.place ≡ Place.Idle) ⊎ (source_of p nx.place ≡ source_of p pl)
-      → in_front (handed_out nx.answer) hand₁ ≡ true → can p x nx.change (cells x).l ≡ true
+      → in_front (hands_maybe nx.answer) hand₁ ≡ true → can_maybe p x nx.change (cells x).l ≡ true
       → Causes w fill₁ pl (cells p) (cells (source_of p pl)) (update cells x c₂ (source_of p pl)).l mark nx.answer
       → Ran w n cells members p pl mark x o nx
   ran_one c₂ items kept eq es el single em est st stp sr fair can_s why =
@@ -94,18 +94,18 @@ module _ (w n : ℕ) (cells : ℕ → Cell) (members : ℕ → Member) (p : ℕ)
             (hand_over nx.answer (handed (cells (named_queue nx.change x (source_of p pl))).kind nx.change
             (cells (named_queue nx.change x (source_of p pl))).l (members p).hand))
             (ap (λ (y : ℕ). hand_over nx.answer (handed (cells y).kind nx.change (cells y).l (members p).hand)) (sym q));
-        fair = subst (λ (y : ℕ). in_front (handed_out nx.answer) (handed (cells y).kind nx.change (cells y).l (members p).hand) ≡ true)
+        fair = subst (λ (y : ℕ). in_front (hands_maybe nx.answer) (handed (cells y).kind nx.change (cells y).l (members p).hand) ≡ true)
             (sym q) fair;
-        can_s = subst (λ (y : ℕ). can p y nx.change (cells y).l ≡ true) (sym q) can_s;
+        can_s = subst (λ (y : ℕ). can_maybe p y nx.change (cells y).l ≡ true) (sym q) can_s;
         ls_are =
             λ ks out gone ek y.
-            subst (λ (z : ℕ). (does ks p z nx.change (plain_of cells members out gone)).queue y ≡ (update cells x c₂ y).l) (sym q)
+            subst (λ (z : ℕ). (does_maybe ks p z nx.change (plain_of cells members out gone)).queue y ≡ (update cells x c₂ y).l) (sym q)
             (does_queue ks p x nx.change (plain_of cells members out gone) single y
             ∙ sym (column (λ (c : Cell). c.l) cells (λ (z : ℕ). (cells z).l)
             (λ _. refl) x c₂ (changed (ks x) p nx.change (cells x).l) (el
             ∙ ap (λ (k : Kind). changed k p nx.change (cells x).l) (sym ek)) y));
         moved_are = column (λ (c : Cell). c.g.moved) cells (λ (z : ℕ). (cells z).g.moved)
-            (λ _. refl) x c₂ ((cells x).g.moved + moves_of nx.change) em;
+            (λ _. refl) x c₂ ((cells x).g.moved + moves_maybe nx.change) em;
         start_s = column_s (λ (c : Cell). c.g.start) cells x c₂ est;
         still =
             λ y. update_elim cells x c₂ (λ (c : Cell). c.g.who ≡ noone
@@ -141,7 +141,7 @@ module _ (w n : ℕ) {cells : ℕ → Cell} {members : ℕ → Member} (inv : MI
       (λ r ne f h. f (ap holder_of (sym t.who_s) ∙ h)))
       (sym t.q_is) refl refl t.single t.moved_s t.rb.start_s t.still
       (λ _. t.still_n _) (inr t.src_s) t.fair t.can_s
-      (why_map (answer_row nx.answer).reason (λ a. a) (λ a. a) (λ a. absurd a) (λ a. absurd a) t.why)
+      (why_map (reason_of nx.answer) (λ a. a) (λ a. a) (λ a. absurd a) (λ a. absurd a) t.why)
     where
       c₂ : Cell
       c₂ = record {

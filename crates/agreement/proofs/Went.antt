@@ -14,11 +14,11 @@ use Rattle.tables.specs.declared.place.Place.{Place}
 use Rattle.tables.specs.Tables.{source_of}
 use Rattle.tables.specs.Step.{place_at, source_at}
 use Rattle.tables.specs.Lists.{is_open, Lists, Plain, update}
-use Rattle.tables.specs.Effect.{moves_of}
 use Rattle.tables.specs.Causes.{Notes, notes, is_first_load, is_head_load, fill_of, Premise}
 use Rattle.agreement.specs.Statement.{Run, did_entry, lists_of, replayed, after_step}
 use Rattle.agreement.proofs.Nums.{noone, head}
 use Rattle.agreement.proofs.Whole.{LifoPart}
+use Rattle.tables.proofs.Maybe.{moves_maybe}
 use Rattle.tables.proofs.Updates.{update_elim, update_other}
 use Rattle.agreement.proofs.Facts.{BkF}
 use Rattle.agreement.proofs.Steps.{Still}
@@ -44,7 +44,7 @@ module _ (w : ℕ) (wide : 1 < w) {r : Run} (b : Good w r) (p : ℕ) (pn : p < r
   notes₁ =
       notes r.machine p (replayed r.machine r.record') (replayed r.machine
       (did_entry (after w wide b p pn mark prem).effect r.record'))
-      (after w wide b p pn mark prem).effect.queue (after w wide b p pn mark prem).effect.change r.notes
+      (after w wide b p pn mark prem).effect r.notes
 
   place : place_at r.machine p ≡ (b.members p).pl
   place = place_is w r.machine r.items b.fits p pn mark
@@ -58,7 +58,7 @@ module _ (w : ℕ) (wide : 1 < w) {r : Run} (b : Good w r) (p : ℕ) (pn : p < r
   moved₁ z =
       notes_moved r.notes.moved p (x w wide b p pn mark prem) (y w wide b p pn mark prem) (next w wide b p pn mark prem).change z
       ∙ update_ext r.notes.moved (λ (v : ℕ). (b.cells v).g.moved) b.moved_are (x w wide b p pn mark prem) _ _ (ap
-      (λ (n : ℕ). n + moves_of (next w wide b p pn mark prem).change) (b.moved_are (x w wide b p pn mark prem))) z
+      (λ (n : ℕ). n + moves_maybe (next w wide b p pn mark prem).change) (b.moved_are (x w wide b p pn mark prem))) z
       ∙ sym (step₁.moved_are z)
 
   pub first₁ : (z : ℕ) → notes₁.first z ≡ (step₁.members' z).fm

@@ -8,7 +8,7 @@
 -- 7. a queue's resting tokens and slots not yet given back are never more than its capacity.
 -- begin, step, alone and opening are those of tables/specs/Step. Lists, what an effect does to them and when it cannot, replay:
 -- tables/specs/Lists. Causes, the premise at a step: tables/specs/Causes. What slots, counters and places show: tables/specs/Shows. Counting: Counts.
-use Rattle.std.specs.Prelude.{ℕ, zero, suc, ◌+◌, ◌^◌, ◌≤◌, ◌<◌, ◌≡◌, List, [], ◌∷◌, length, get_or, eqb}
+use Rattle.std.specs.Prelude.{ℕ, zero, suc, ◌+◌, ◌^◌, ◌≤◌, ◌<◌, ◌≡◌, List, [], ◌∷◌, length, get_or, eqb, Option, Some, None}
 use Rattle.words.specs.Word.{pick}
 use Rattle.tables.specs.declared.answer.Answer.{Answer}
 use Rattle.tables.specs.declared.answer.Effect.{Effect}
@@ -17,8 +17,6 @@ use Rattle.tables.specs.declared.call.Mark.{Mark}
 use Rattle.tables.specs.declared.state.Kind.{Kind}
 use Rattle.tables.specs.declared.state.Machine.{Machine}
 use Rattle.tables.specs.Machine.{queue_at}
-use Rattle.tables.specs.Answer.{is_pending}
-use Rattle.tables.specs.Effect.{is_none}
 use Rattle.tables.specs.Step.{Outcome, begin, step, Alone, alone, noted, opening}
 use Rattle.tables.specs.Lists.{Plain, nothing_yet, Entry, did, said, Replayed, impossible, lists, replay}
 use Rattle.tables.specs.Causes.{Notes, no_notes, begun_notes, fill_of, notes, Premise, Cause}
@@ -41,12 +39,14 @@ pub record Run : Type 0 where
   pub record' : List Entry
   pub notes : Notes
 
--- a step's effect, then its answer, where it has one
-abbrev pub did_entry : Effect → List Entry → List Entry
-did_entry e l = pick (is_none e.change) l (did e ∷ l)
+-- a step's effect, then its answer, where it has them
+abbrev pub did_entry : Option Effect → List Entry → List Entry
+did_entry None l = l
+did_entry (Some e) l = did e ∷ l
 
-abbrev pub said_entry : ℕ → Answer → List Entry → List Entry
-said_entry p r l = pick (is_pending r) l (said p r ∷ l)
+abbrev pub said_entry : ℕ → Option Answer → List Entry → List Entry
+said_entry p None l = l
+said_entry p (Some r) l = said p r ∷ l
 
 abbrev pub recorded : ℕ → Outcome → List Entry → List Entry
 recorded p o l = said_entry p o.answer (did_entry o.effect l)
@@ -80,7 +80,7 @@ after_step r p o = record {
   notes =
       pick (eqb o.refusal 0)
       (notes r.machine p (replayed r.machine r.record') (replayed r.machine (did_entry o.effect r.record'))
-      o.effect.queue o.effect.change r.notes) r.notes;
+      o.effect r.notes) r.notes;
 }
 
 module _ (w most : ℕ) where
@@ -147,7 +147,7 @@ unfoldable pub NoneRefused : List Outcome → Type 0
 NoneRefused [] = Unit {0}
 NoneRefused (o ∷ l) = (o.refusal ≡ 0) × NoneRefused l
 
-unfoldable pub last_answer : Answer → List Outcome → Answer
+unfoldable pub last_answer : Option Answer → List Outcome → Option Answer
 last_answer a [] = a
 last_answer a (o ∷ l) = last_answer o.answer l
 
@@ -168,7 +168,7 @@ pub record AloneAgrees (w most : ℕ) (r : Run) (p : ℕ) (b : Alone) : Type 0 w
   pub machine : (repeated w most b.steps r p).machine ≡ b.machine
   pub items : (repeated w most b.steps r p).items ≡ b.items
   pub taken : NoneRefused (singles w most b.steps r p)
-  pub answer : b.answer ≡ last_answer Answer.Pending (singles w most b.steps r p)
+  pub answer : b.answer ≡ last_answer None (singles w most b.steps r p)
   pub effects : b.effects ≡ gathered [] (singles w most b.steps r p)
   -- its effects and answer, put on the record as they are, replay to the same lists
   pub same_lists :

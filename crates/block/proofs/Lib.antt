@@ -1,11 +1,8 @@
 pub mod Cells
 pub mod Words
-pub mod Limits
-pub mod Sealed
 pub mod Tables
 pub mod Machines
 pub mod Seats
-pub mod Surveying
 pub mod PutBack
 pub mod Acting
 pub mod Storing

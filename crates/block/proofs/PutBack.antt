@@ -3,21 +3,32 @@ use Prim.Native.Nat.{ℕ, ◌≤◌, ◌<◌}
 use mathlib.Core.Path.{◌≡◌, refl, ap, ◌∙◌}
 use mathlib.Core.List.{List}
 use native.Mathlib.Omega.{arith}
-use lib.ListN.{length, set}
+use lib.ListN.{length, set, length-append}
+use Rattle.std.specs.Prelude.{Option, Some, None}
 use Rattle.words.specs.Edition.{width}
 use Rattle.tables.specs.declared.state.Machine.{Machine}
+use Rattle.tables.specs.declared.answer.Answer.{Answer}
+use Rattle.tables.specs.declared.answer.Effect.{Effect}
 use Rattle.tables.specs.declared.answer.Reply.{Reply}
 use Rattle.machine.specs.declared.desk.Desk.{Desk}
 use Rattle.machine.specs.Desk.{put_back}
 use Rattle.tables.specs.Machine.{most, restretched}
 use Rattle.block.specs.Block.{reply_base, reply_size, party_size, queue_size, size, party_base, queue_base, party_from, queue_from, machine_of}
 use Rattle.block.specs.Contents.{contents_in, changed}
-use Rattle.block.specs.Reply.{reply_words}
+use Rattle.block.specs.Reply.{answer_words, effect_words, reply_words}
 use Rattle.block.proofs.Machines.{Filed, here, first_words_kept, beyond_kept, party_filed, queue_filed, reply_filed}
+
+answer_long : (a : Option Answer) → length (answer_words a) ≡ 3
+answer_long None = refl
+answer_long (Some a) = refl
+
+effect_long : (e : Option Effect) → length (effect_words e) ≡ 4
+effect_long None = refl
+effect_long (Some e) = refl
 
 pub reply_long : (r : Reply) → length (reply_words r) ≡ reply_size
 unfolding reply_words
-reply_long r = refl
+reply_long r = simp (length-append, answer_long, effect_long) (omega arith)
 
 -- a block is long enough for each part
 pub party_files : {xs ys ws : List ℕ} (i : ℕ) → i < most → size most ≤ length xs → length ws ≡ party_size → ys ≡ restretched (party_base i) party_size ws xs

@@ -6,7 +6,6 @@ use mathlib.Core.List.{List}
 use mathlib.Core.Logic.{inl, inr, ⊎_elim}
 use native.Mathlib.Omega.{arith}
 use borrow.Author.Tests.{le-leb}
-use lib.Dec.{leb}
 use lib.ListN.{length, get_or, drop}
 use lib.Seq.{ext_get_or}
 use Rattle.words.specs.Edition.{width}
@@ -20,7 +19,6 @@ use Rattle.block.specs.Block.{party_in, queue_in, table, no_reply, seal_words, h
 use Rattle.block.specs.Contents.{contents_in}
 use Rattle.block.specs.Opening.{fresh}
 use Rattle.block.proofs.Machines.{Filed, long_kept, beyond_kept, here, elsewhere, seats_apart, queues_apart}
-use Rattle.block.proofs.Sealed.{by_parties}
 use Rattle.block.proofs.Tables.{table_length, entry}
 use Rattle.block.proofs.Words.{in_stretch, after_kept}
 
@@ -83,9 +81,9 @@ module _ (m : Machine) where
     at_head j h = let e : j ≡ 0 + j = omega arith in ap (λ (i : ℕ). get_or ys i 0) e ∙ in_stretch ys 0 front j h ∙ ap (λ (l : List ℕ). get_or l j 0) s.head_is
 
     is_block_lem : is_block most ys ≡ true
+    unfolding is_block
     is_block_lem =
-        sym (by_parties most ys (omega (arith, s.long)) (at_head 0 (omega arith)) (at_head 1 (omega arith)))
-        ∙ ap (λ (x : ℕ). leb x most) (at_head 2 (omega arith)) ∙ le-leb m.parties most few
+        simp (le-leb (size most) (length ys) (omega (arith, s.long)), at_head 0 (omega arith), at_head 1 (omega arith), at_head 2 (omega arith), le-leb m.parties most few) refl
 
     party_table : table (party_in width ys) 0 most ≡ m.party
     party_table =

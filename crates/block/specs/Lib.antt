@@ -1,7 +1,6 @@
 pub mod PlaceWords
 pub mod Block
 pub mod Reply
-pub mod Survey
 pub mod Contents
 pub mod Opening
 pub mod Look

@@ -1,5 +1,5 @@
 -- A place in numbers: how each is written, and what any numbers are read as. proofs/Cells.antt shows that what is written is read back.
-use Rattle.std.specs.Prelude.{ℕ, ◌-◌, ◌^◌, Bool, false, ltb, eqb}
+use Rattle.std.specs.Prelude.{ℕ, ◌-◌, ◌^◌, Bool, false, Option, Some, None, ltb, eqb}
 use Rattle.words.specs.Word.{pick, orb, position}
 use Rattle.tables.specs.declared.call.Rule.{Rule}
 use Rattle.tables.specs.declared.place.BookPlace.{BookPlace}
@@ -245,6 +245,10 @@ place_of c =
     (pick (eqb c.role 5) (Place.Move (move_of c)) (Place.Close (closing_of c.call c.first) (close_of c)))))))
 
 -- ---- which numbers are a place's
+
+-- what is read, where the numbers are known
+abbrev pub where_known : {A : Type 0} → Bool → A → Option A
+where_known k x = pick k (Some x) None
 
 -- lo ≤ n < hi
 abbrev pub between : (lo hi n : ℕ) → Bool

@@ -1,11 +1,15 @@
-// Where the words of a machine stand in a lent slice: read in place, one party or queue at a time.
-ghost use Rattle.std.specs.Prelude.{◌≡◌, ◌+◌, ◌≤◌, ◌<◌, length};
+// Where the words of a machine stand in a lent slice: read and written in place, one party or queue at a time.
+ghost use Rattle.std.specs.Prelude.{◌≡◌, ◌+◌, ◌≤◌, ◌<◌, ◌↔◌, true, false, length, get_or, IsNone, IfSome};
 ghost use Rattle.words.specs.Edition.{width};
-ghost use Rattle.tables.specs.Machine.{most, stretch, restretched};
+ghost use Rattle.tables.specs.Machine.{most, restretched};
 ghost use Rattle.block.specs.Block as B;
+ghost use Rattle.block.specs.PlaceWords as C;
+ghost use Rattle.block.specs.Reply as Y;
 
-use super::reply::REPLY_SIZE;
+use super::reply::{REPLY_SIZE, reply_words};
 use super::{CallWords, PlaceWords, read};
+use machine::record::Record;
+use tables::answer::Reply;
 use tables::state::{Drain, Kind, MOST, Party, Queue};
 
 // "ragnuloi" in ASCII: the first word of every block.
@@ -28,115 +32,80 @@ pub const QUEUES_BASE: usize = PARTIES_BASE + PARTY_SIZE * MOST;
 pub const SIZE: usize = QUEUES_BASE + QUEUE_SIZE * MOST;
 
 // Long enough, sealed, of this layout, and for parties that there is room for.
+#[tactic(auto, unfolding(crate::specs::Block::is_block))]
 pub fn is_block(block: &[u64]) -> bool
     ensures { result ≡ B.is_block most block.now }
 {
-    if block.len() < SIZE {
-        return false;
-    }
-    if block[0] != SEAL {
-        return false;
-    }
-    if block[1] == LAYOUT {
-        block[2] <= (MOST as u64)
-    } else {
-        false
-    }
+    SIZE <= block.len() && block[0] == SEAL && block[1] == LAYOUT && block[2] <= (MOST as u64)
 }
 
+// ---- a party and a queue as words
+
+// Between types of other crates, for which no `From` can stand here.
 pub fn kind_of(number: u64) -> Kind
     ensures { result ≡ B.kind_of number }
 {
     if number == 0 { Kind::Lifo } else { Kind::Fifo }
 }
 
-fn kind_number(kind: Kind) -> u32
-    ensures { result ≡ B.kind_number kind }
-{
-    match kind {
-        Kind::Lifo => 0,
-        Kind::Fifo => 1,
-    }
-}
-
-fn words_at(block: &[u64], at: usize) -> PlaceWords
-    requires { at + B.party_size ≤ length block.now }
-    ensures { result ≡ B.words_from width (stretch at B.party_size block.now) }
-{
-    let first = words::unpack(block[at + 7]);
-    let second = words::unpack(block[at + 8]);
-    let third = words::unpack(block[at + 9]);
-    let call = CallWords {
-        tag: block[at + 2],
-        rule: block[at + 3],
-        source: block[at + 4],
-        number: block[at + 5],
-    };
-    PlaceWords {
-        role: block[at],
-        row: block[at + 1],
-        call: call,
-        packed: block[at + 6],
-        first: first.high,
-        second: first.low,
-        third: second.high,
-        fourth: second.low,
-        fifth: third.low,
-    }
-}
-
-fn drain_at(block: &[u64], at: usize) -> Drain
-    requires { at + B.party_size ≤ length block.now }
-    ensures { result ≡ B.drain_from width (stretch at B.party_size block.now) }
-{
-    let both = words::unpack(block[at + 10]);
-    Drain {
-        at: both.high,
-        end: both.low,
-    }
-}
-
 #[tactic(auto, unfolding(crate::specs::Block::party_from))]
-pub fn party_at(block: &[u64], i: usize) -> Party
-    requires within { i < most }
-    requires long { B.size most ≤ length block.now }
-    ensures { result ≡ B.party_in width block.now i }
+fn party_from(words: [u64; PARTY_SIZE]) -> Party
+    ensures { result ≡ B.party_from width words }
 {
-    let at = PARTIES_BASE + PARTY_SIZE * i;
-    let cell = words_at(block, at);
-    let drain = drain_at(block, at);
+    let [
+        role,
+        row,
+        tag,
+        rule,
+        source,
+        number,
+        packed,
+        first,
+        third,
+        fifth,
+        drain,
+    ] = words;
+    let one = words::unpack(first);
+    let two = words::unpack(third);
+    let drain = words::unpack(drain);
+    let place = read::place(PlaceWords {
+        role,
+        row,
+        call: CallWords {
+            tag,
+            rule,
+            source,
+            number,
+        },
+        packed,
+        first: one.high,
+        second: one.low,
+        third: two.high,
+        fourth: two.low,
+        fifth: words::unpack(fifth).low,
+    });
     Party {
-        place: read::place(cell),
-        drain: drain,
+        place,
+        drain: Drain {
+            at: drain.high,
+            end: drain.low,
+        },
     }
 }
 
-pub fn queue_at(block: &[u64], i: usize) -> Queue
-    requires within { i < most }
-    requires long { B.size most ≤ length block.now }
-    ensures { result ≡ B.queue_in width most block.now i }
+#[tactic(auto, unfolding(crate::specs::Block::queue_from))]
+fn queue_from(words: [u64; QUEUE_SIZE]) -> Queue
+    ensures { result ≡ B.queue_from width words }
 {
-    let at = QUEUES_BASE + QUEUE_SIZE * i;
-    let first = words::unpack(block[at]);
-    let last = words::unpack(block[at + 2]);
+    let [first, packed, last] = words;
+    let first = words::unpack(first);
+    let last = words::unpack(last);
     Queue {
         kind: kind_of(last.high as u64),
         capacity: first.high,
         pushes: first.low,
-        packed: block[at + 1],
+        packed,
         completed: last.low,
-    }
-}
-
-// Words put one after the other.
-pub fn put_words(block: &mut [u64], at: usize, part: &[u64])
-    requires { at + length part.now ≤ length block.old }
-    ensures { block.new ≡ restretched at (length part.now) part.now block.old }
-{
-    let mut i: usize = 0;
-    while i < part.len() {
-        block[at + i] = part[i];
-        i += 1;
     }
 }
 
@@ -161,14 +130,123 @@ pub fn party_words(cell: PlaceWords, drain: Drain) -> [u64; PARTY_SIZE]
     ]
 }
 
+#[tactic(auto, unfolding(crate::specs::Block::queue_from))]
 pub fn queue_words(queue: Queue) -> [u64; QUEUE_SIZE]
     ensures words_are { result ≡ B.queue_words width queue }
-    ensures queue_back { B.queue_from width result ≡ queue }
+    ensures reads_back { B.queue_from width result ≡ queue }
 {
-    let kind = queue.kind;
     [
         words::pack(queue.capacity, queue.pushes),
         queue.packed,
-        words::pack(kind_number(kind), queue.completed),
+        words::pack(queue.kind as u32, queue.completed),
     ]
+}
+
+// ---- where they stand
+
+pub fn party_at(block: &[u64], i: usize) -> Party
+    requires within { i < most }
+    requires long { B.size most ≤ length block.now }
+    ensures { result ≡ B.party_in width block.now i }
+{
+    let at = PARTIES_BASE + PARTY_SIZE * i;
+    party_from(block[at..at + PARTY_SIZE].try_into().unwrap())
+}
+
+pub fn queue_at(block: &[u64], i: usize) -> Queue
+    requires within { i < most }
+    requires long { B.size most ≤ length block.now }
+    ensures { result ≡ B.queue_in width most block.now i }
+{
+    let at = QUEUES_BASE + QUEUE_SIZE * i;
+    queue_from(block[at..at + QUEUE_SIZE].try_into().unwrap())
+}
+
+// Words that are a block.
+#[derive(Clone, Copy)]
+pub struct Words<'a> {
+    pub words: &'a [u64],
+    ghost sealed: { B.is_block most words.now ≡ true },
+    ghost long: { B.size most ≤ length words.now },
+    ghost few: { get_or words.now 2 0 ≤ most },
+}
+
+impl<'a> Words<'a> {
+    // None where the words are no block.
+    #[tactic(auto, unfolding(crate::specs::Block::is_block))]
+    pub fn of_block(block: &'a [u64]) -> Option<Words<'a>>
+        ensures none { IsNone result ↔ (B.is_block most block.now ≡ false) }
+        ensures same { IfSome result (λ w. w.words.now ≡ block.now) }
+    {
+        if is_block(block) {
+            Some(Words { words: block })
+        } else {
+            None
+        }
+    }
+}
+
+impl Record for Words<'_> {
+    ghost machine = { λ w. B.machine_of width most w.words.now };
+
+    #[tactic(auto, using(crate::proofs::Looks::parties_yes))]
+    fn parties(&self) -> u32 {
+        self.words[2] as u32
+    }
+
+    #[tactic(auto, using(crate::proofs::Looks::party_here, crate::proofs::Looks::parties_many))]
+    fn party(&self, i: usize) -> Party {
+        party_at(self.words, i)
+    }
+
+    #[tactic(auto, using(crate::proofs::Looks::queue_here, crate::proofs::Looks::queues_many))]
+    fn queue(&self, i: usize) -> Queue {
+        queue_at(self.words, i)
+    }
+}
+
+// Words long enough for a block, to be written.
+#[derive(Drop)]
+pub struct WordsMut<'a> {
+    pub words: &'a mut [u64],
+    ghost long: { B.size most ≤ length words.now },
+}
+
+impl WordsMut<'_> {
+    // Words put one after the other.
+    pub fn put(&mut self, at: usize, part: &[u64])
+        requires { at + length part.now ≤ length self.old.words.now }
+        ensures same { self.new.words.ghost_name ≡ self.old.words.ghost_name }
+        ensures words_are { self.new.words.now ≡ restretched at (length part.now) part.now self.old.words.now }
+    {
+        self.words[at..at + part.len()].copy_from_slice(part);
+    }
+
+    pub fn put_party(&mut self, i: usize, party: Party)
+        requires { i < most }
+        ensures same { self.new.words.ghost_name ≡ self.old.words.ghost_name }
+        ensures words_are { self.new.words.now
+            ≡ restretched (B.party_base i) B.party_size (B.party_words width (C.words_of party.place) party.drain) self.old.words.now }
+        ensures reads_back { B.party_from width (B.party_words width (C.words_of party.place) party.drain) ≡ party }
+    {
+        let words = party_words(PlaceWords::from(party.place), party.drain);
+        self.put(PARTIES_BASE + PARTY_SIZE * i, &words);
+    }
+
+    pub fn put_queue(&mut self, i: usize, queue: Queue)
+        requires { i < most }
+        ensures same { self.new.words.ghost_name ≡ self.old.words.ghost_name }
+        ensures words_are { self.new.words.now
+            ≡ restretched (B.queue_base most i) B.queue_size (B.queue_words width queue) self.old.words.now }
+        ensures reads_back { B.queue_from width (B.queue_words width queue) ≡ queue }
+    {
+        self.put(QUEUES_BASE + QUEUE_SIZE * i, &queue_words(queue));
+    }
+
+    pub fn put_reply(&mut self, reply: Reply)
+        ensures same { self.new.words.ghost_name ≡ self.old.words.ghost_name }
+        ensures words_are { self.new.words.now ≡ restretched B.reply_base B.reply_size (Y.reply_words reply) self.old.words.now }
+    {
+        self.put(REPLY_BASE, &reply_words(reply));
+    }
 }

@@ -1,49 +1,22 @@
 // A fresh machine in a block, or refusal 1, 7 or 8.
-ghost use Rattle.std.specs.Prelude.{◌≡◌, length, get_or};
+ghost use Rattle.std.specs.Prelude.{◌≡◌, length};
 ghost use Rattle.words.specs.Edition.{width};
 ghost use Rattle.tables.specs.Machine.{most};
-ghost use Rattle.block.specs.Block as B;
 ghost use Rattle.block.specs.Contents as Hd;
 ghost use Rattle.block.specs.Opening as O;
 
-use super::layout::SIZE;
+use super::layout::{SIZE, WordsMut};
 use super::{layout, store};
+use tables::answer::Refusal;
 use tables::state::MOST;
 
-fn request(given: &[u64], i: usize) -> u64
-    ensures { result ≡ get_or given.now i 0 }
+// As many as there are parties at most, `none` where there are fewer.
+fn first_of<T: Copy>(given: &[T], none: T) -> [T; MOST]
+    ensures { result ≡ O.first_of most given.now none }
 {
-    if i < given.len() { given[i] } else { 0 }
-}
-
-fn position(given: &[u32], i: usize) -> u32
-    ensures { result ≡ get_or given.now i 0 }
-{
-    if i < given.len() { given[i] } else { 0 }
-}
-
-// As many as there are parties at most, 0 where there are fewer.
-fn first_requests(given: &[u64]) -> [u64; MOST]
-    ensures { result ≡ O.first_of most given.now }
-{
-    let mut out: [u64; MOST] = [0; MOST];
-    let mut i: usize = 0;
-    while i < MOST {
-        out[i] = request(given, i);
-        i += 1;
-    }
-    out
-}
-
-fn first_positions(given: &[u32]) -> [u32; MOST]
-    ensures { result ≡ O.first_of most given.now }
-{
-    let mut out: [u32; MOST] = [0; MOST];
-    let mut i: usize = 0;
-    while i < MOST {
-        out[i] = position(given, i);
-        i += 1;
-    }
+    let n = given.len().min(MOST);
+    let mut out = [none; MOST];
+    out[..n].copy_from_slice(&given[..n]);
     out
 }
 
@@ -51,10 +24,7 @@ fn first_positions(given: &[u32]) -> [u32; MOST]
 fn asked(parties: u64, requests: usize, positions: usize) -> u64
     ensures { result ≡ O.asked parties requests positions }
 {
-    if (requests as u64) < parties {
-        return 0;
-    }
-    if (positions as u64) < parties {
+    if (requests as u64) < parties || (positions as u64) < parties {
         0
     } else {
         parties
@@ -69,26 +39,22 @@ pub fn open(
     requests: &[u64],
     positions: &[u32],
     items: &[u64],
-) -> u8
-    ensures block_is { O.left_at result (Hd.contents_in width most block.new)
+) -> Result<(), Refusal>
+    ensures block_is { O.left_at (Hd.code_of result) (Hd.contents_in width most block.new)
         ≡ O.opened width most block.old kind parties requests.now positions.now (length items.now) }
     ensures kept { O.IsUntouched most block.old kind → block.new ≡ block.old }
 {
-    if block.len() < SIZE {
-        return 1;
-    }
-    if 1 < kind {
-        return 1;
+    if block.len() < SIZE || 1 < kind {
+        return Err(Refusal::Record);
     }
     let n = asked(parties, requests.len(), positions.len());
     let o = machine::open::open(
         layout::kind_of(kind),
         n,
-        first_requests(requests),
-        first_positions(positions),
+        first_of(requests, 0),
+        first_of(positions, 0),
         items,
     );
-    let m = o.machine;
-    store::store(block, m);
-    o.refusal
+    store::store(&mut WordsMut { words: block }, o.machine);
+    o.refusal.map_or(Ok(()), Err)
 }

@@ -1,6 +1,6 @@
-// Numbers as a place. Numbers that are no place's are read as one whose source is not there, which the record test refuses.
-ghost use Rattle.std.specs.Prelude.{◌≡◌};
-ghost use Rattle.words.specs.Word.{orb};
+// Numbers as a place, or none. Numbers that are no place's are read as one whose source is not there, which the record test refuses.
+ghost use Rattle.std.specs.Prelude.{◌≡◌, Ok, Err, ltb};
+ghost use Rattle.words.specs.Word.{pick, orb};
 ghost use Rattle.tables.specs.Step.{andb};
 ghost use Rattle.block.specs.PlaceWords as C;
 
@@ -12,368 +12,299 @@ use tables::place::{
 };
 use words::Position;
 
-pub fn rule_of(rule: u64, number: u64) -> Rule
-    ensures { result ≡ C.rule_of rule number }
+// ---- what a call is about; each is read where its role is known, and there is no error to tell, so it is an Option
+
+// Between types of other crates, for which no `TryFrom` can stand here.
+pub fn known_rule(rule: u64, number: u64) -> Option<Rule>
+    ensures { result ≡ C.where_known (ltb rule 4) (C.rule_of rule number) }
 {
     match rule {
-        0 => Rule::All,
-        1 => Rule::Half,
-        2 => Rule::Fixed(number),
-        _ => Rule::Given,
+        0 => Some(Rule::All),
+        1 => Some(Rule::Half),
+        2 => Some(Rule::Fixed(number)),
+        3 => Some(Rule::Given),
+        _ => None,
     }
 }
 
-fn owner_of(w: CallWords) -> OwnerCall
-    ensures { result ≡ C.owner_of w }
+fn owner_of(w: CallWords) -> Option<OwnerCall>
+    ensures { result ≡ C.where_known (ltb w.tag 3) (C.owner_of w) }
 {
-    let tag = w.tag;
+    match w.tag {
+        0 => Some(OwnerCall::Push(w.number)),
+        1 => Some(OwnerCall::Extend),
+        2 => Some(OwnerCall::Spare),
+        _ => None,
+    }
+}
+
+fn transfer_of(tag: u64) -> Option<Transfer>
+    ensures { result ≡ C.where_known (C.between 3 5 tag) (C.transfer_of tag) }
+{
     match tag {
-        0 => OwnerCall::Push(w.number),
-        1 => OwnerCall::Extend,
-        _ => OwnerCall::Spare,
+        3 => Some(Transfer::Steal),
+        4 => Some(Transfer::Take),
+        _ => None,
     }
 }
 
-fn transfer_of(tag: u64) -> Transfer
-    ensures { result ≡ C.transfer_of tag }
+fn transfer_call_of(w: CallWords) -> Option<TransferCall>
+    ensures { result ≡ C.where_known (andb (C.between 3 5 w.tag) (ltb w.rule 4)) (C.transfer_call_of w) }
 {
-    match tag {
-        3 => Transfer::Steal,
-        _ => Transfer::Take,
-    }
-}
-
-fn transfer_call_of(w: CallWords) -> TransferCall
-    ensures { result ≡ C.transfer_call_of w }
-{
-    TransferCall {
+    Some(TransferCall {
         source: w.source,
-        rule: rule_of(w.rule, w.number),
-        transfer: transfer_of(w.tag),
-    }
+        rule: known_rule(w.rule, w.number)?,
+        transfer: transfer_of(w.tag)?,
+    })
 }
 
-fn room_of(w: CallWords) -> RoomCall
-    ensures { result ≡ C.room_of w }
+// An owner's call has no rule, but the number in its place is one of a rule all the same.
+fn room_of(w: CallWords) -> Option<RoomCall>
+    ensures { result ≡ C.where_known (andb (ltb w.tag 5) (ltb w.rule 4)) (C.room_of w) }
 {
-    if w.tag < 3 {
-        return RoomCall::Owner(owner_of(w));
-    }
-    RoomCall::Transfer(transfer_call_of(w))
-}
-
-fn destination_of(c: PlaceWords) -> Destination
-    ensures { result ≡ C.destination_of c }
-{
-    Destination {
-        word: c.first,
-        tail: c.second,
-        room: c.third,
+    if w.rule < 4 && w.tag < 3 {
+        Some(RoomCall::Owner(owner_of(w)?))
+    } else {
+        Some(RoomCall::Transfer(transfer_call_of(w)?))
     }
 }
 
 #[tactic(auto, unfolding(crate::specs::PlaceWords::booking_of))]
-fn booking_of(c: PlaceWords) -> BookingCall
-    ensures { result ≡ C.booking_of c }
+fn booking_of(c: PlaceWords) -> Option<BookingCall>
+    ensures { result ≡ C.where_known (andb (C.between 3 6 c.call.tag) (ltb c.call.rule 4)) (C.booking_of c) }
 {
     let w = c.call;
-    let tag = w.tag;
-    match tag {
-        5 => BookingCall::Drain(rule_of(w.rule, w.number)),
-        _ => BookingCall::Transfer(transfer_call_of(w), destination_of(c)),
+    if w.tag == 5 {
+        return Some(BookingCall::Drain(known_rule(w.rule, w.number)?));
     }
+    let dest = Destination {
+        word: c.first,
+        tail: c.second,
+        room: c.third,
+    };
+    Some(BookingCall::Transfer(transfer_call_of(w)?, dest))
 }
 
-fn booked_of(c: PlaceWords) -> BookedTokens
-    ensures { result ≡ C.booked_of c }
+fn booked_of(c: PlaceWords) -> Option<BookedTokens>
+    ensures { result ≡ C.where_known (C.between 3 5 c.call.tag) (C.booked_of c) }
 {
-    let w = c.call;
-    BookedTokens {
-        source: w.source,
-        transfer: transfer_of(w.tag),
+    Some(BookedTokens {
+        source: c.call.source,
+        transfer: transfer_of(c.call.tag)?,
         word: c.first,
         tail: c.second,
         from: c.third,
         count: c.fourth,
-    }
+    })
 }
 
 #[tactic(auto, unfolding(crate::specs::PlaceWords::closing_of))]
-fn closing_of(w: CallWords, count: u32) -> ClosingCall
-    ensures { result ≡ C.closing_of w count }
+fn closing_of(w: CallWords, count: u32) -> Option<ClosingCall>
+    ensures { result ≡ C.where_known (orb (C.between 3 5 w.tag) (C.between 6 8 w.tag)) (C.closing_of w count) }
 {
-    let tag = w.tag;
-    match tag {
-        3 => ClosingCall::Steal {
-            source: w.source,
-            count: count,
-        },
-        4 => ClosingCall::Take {
-            source: w.source,
+    let source = w.source;
+    match w.tag {
+        3 => Some(ClosingCall::Steal { source, count }),
+        4 => Some(ClosingCall::Take {
+            source,
             token: w.number,
-            count: count,
-        },
-        6 => ClosingCall::Next(w.number),
-        _ => ClosingCall::Drop,
+            count,
+        }),
+        6 => Some(ClosingCall::Next(w.number)),
+        7 => Some(ClosingCall::Drop),
+        _ => None,
     }
 }
 
+// ---- where it stands
+
 #[tactic(auto, unfolding(crate::specs::PlaceWords::lifo_of))]
-fn lifo_of(c: PlaceWords) -> LifoPlace
-    ensures { result ≡ C.lifo_of c }
+fn lifo_of(c: PlaceWords) -> Option<LifoPlace>
+    ensures { result ≡ C.where_known (C.lifo_known c.row c.call.tag c.call.rule) (C.lifo_of c) }
 {
-    let w = c.call;
-    let row = c.row;
-    match row {
-        0 => LifoPlace::LoadPushes(room_of(w)),
+    let PlaceWords { packed, first, .. } = c;
+    Some(match c.row {
+        0 => LifoPlace::LoadPushes(room_of(c.call)?),
         1 => LifoPlace::LoadPacked {
-            call: room_of(w),
-            pushes: c.first,
+            call: room_of(c.call)?,
+            pushes: first,
         },
         2 => LifoPlace::LoadCompleted {
-            call: room_of(w),
-            pushes: c.first,
-            packed: c.packed,
+            call: room_of(c.call)?,
+            pushes: first,
+            packed,
         },
         3 => LifoPlace::PopPacked,
-        4 => LifoPlace::PopPushes { packed: c.packed },
+        4 => LifoPlace::PopPushes { packed },
         5 => LifoPlace::PopCas {
-            packed: c.packed,
-            tail: c.first,
+            packed,
+            tail: first,
         },
         6 => LifoPlace::EmptyPushes,
-        _ => LifoPlace::EmptyPacked { pushes: c.first },
-    }
+        7 => LifoPlace::EmptyPacked { pushes: first },
+        _ => return None,
+    })
 }
 
 #[tactic(auto, unfolding(crate::specs::PlaceWords::fifo_of))]
-fn fifo_of(c: PlaceWords) -> FifoPlace
-    ensures { result ≡ C.fifo_of c }
+fn fifo_of(c: PlaceWords) -> Option<FifoPlace>
+    ensures { result ≡ C.where_known (C.fifo_known c.row c.call.tag c.call.rule) (C.fifo_of c) }
 {
-    let w = c.call;
-    let row = c.row;
-    match row {
-        0 => FifoPlace::LoadPacked(owner_of(w)),
+    let packed = c.packed;
+    Some(match c.row {
+        0 => FifoPlace::LoadPacked(owner_of(c.call)?),
         1 => FifoPlace::LoadTail {
-            call: owner_of(w),
-            packed: c.packed,
+            call: owner_of(c.call)?,
+            packed,
         },
-        2 => FifoPlace::DestTail(transfer_call_of(w)),
+        2 => FifoPlace::DestTail(transfer_call_of(c.call)?),
         3 => FifoPlace::DestPacked {
-            transfer: transfer_call_of(w),
+            transfer: transfer_call_of(c.call)?,
             tail: c.first,
         },
         4 => FifoPlace::PopPacked,
-        5 => FifoPlace::PopTail { packed: c.packed },
-        6 => FifoPlace::PopCas { packed: c.packed },
+        5 => FifoPlace::PopTail { packed },
+        6 => FifoPlace::PopCas { packed },
         7 => FifoPlace::EmptyPacked,
-        _ => FifoPlace::EmptyTail { packed: c.packed },
-    }
+        8 => FifoPlace::EmptyTail { packed },
+        _ => return None,
+    })
 }
 
 #[tactic(auto, unfolding(crate::specs::PlaceWords::own_of))]
-fn own_of(c: PlaceWords) -> OwnPlace
-    ensures { result ≡ C.own_of c }
+fn own_of(c: PlaceWords) -> Option<OwnPlace>
+    ensures { result ≡ C.where_known (ltb c.row 7) (C.own_of c) }
 {
-    let w = c.call;
-    let row = c.row;
-    match row {
-        0 => OwnPlace::PushWrite {
-            token: w.number,
+    match c.row {
+        0 => Some(OwnPlace::PushWrite {
+            token: c.call.number,
             word: c.first,
             tail: c.second,
-        },
-        1 => OwnPlace::PushStore { word: c.first },
-        2 => OwnPlace::ExtendMore {
+        }),
+        1 => Some(OwnPlace::PushStore { word: c.first }),
+        2 => Some(OwnPlace::ExtendMore {
             pops: c.first,
             tail: c.second,
             limit: c.third,
             written: c.fourth,
-        },
-        3 => OwnPlace::ExtendStore {
+        }),
+        3 => Some(OwnPlace::ExtendStore {
             pops: c.first,
             tail: c.second,
             written: c.third,
-        },
-        4 => OwnPlace::PopRead {
+        }),
+        4 => Some(OwnPlace::PopRead {
             at: Position(c.first),
-        },
-        5 => OwnPlace::NextItem,
-        _ => OwnPlace::DropItem,
+        }),
+        5 => Some(OwnPlace::NextItem),
+        6 => Some(OwnPlace::DropItem),
+        _ => None,
     }
 }
 
 #[tactic(auto, unfolding(crate::specs::PlaceWords::book_of))]
-fn book_of(c: PlaceWords) -> BookPlace
-    ensures { result ≡ C.book_of c }
+fn book_of(c: PlaceWords) -> Option<BookPlace>
+    ensures { result ≡ C.where_known (ltb c.row 7) (C.book_of c) }
 {
-    let row = c.row;
-    match row {
-        0 => BookPlace::LifoPacked,
-        1 => BookPlace::LifoCompleted { packed: c.packed },
-        2 => BookPlace::LifoPushes {
-            packed: c.packed,
-            completed: c.fourth,
-        },
-        3 => BookPlace::LifoCas {
-            packed: c.packed,
-            completed: c.fourth,
-            count: c.fifth,
-        },
-        4 => BookPlace::FifoPacked,
-        5 => BookPlace::FifoTail { packed: c.packed },
-        _ => BookPlace::FifoCas {
-            packed: c.packed,
-            count: c.fifth,
-        },
+    let PlaceWords {
+        packed,
+        fourth: completed,
+        fifth: count,
+        ..
+    } = c;
+    match c.row {
+        0 => Some(BookPlace::LifoPacked),
+        1 => Some(BookPlace::LifoCompleted { packed }),
+        2 => Some(BookPlace::LifoPushes { packed, completed }),
+        3 => Some(BookPlace::LifoCas {
+            packed,
+            completed,
+            count,
+        }),
+        4 => Some(BookPlace::FifoPacked),
+        5 => Some(BookPlace::FifoTail { packed }),
+        6 => Some(BookPlace::FifoCas { packed, count }),
+        _ => None,
     }
 }
 
 #[tactic(auto, unfolding(crate::specs::PlaceWords::move_of))]
-fn move_of(c: PlaceWords) -> MovePlace
-    ensures { result ≡ C.move_of c }
+fn move_of(c: PlaceWords) -> Option<MovePlace>
+    ensures { result ≡ C.where_known (C.move_known c.row c.call.tag) (C.move_of c) }
 {
-    let w = c.call;
-    let booked = booked_of(c);
-    let row = c.row;
-    match row {
-        0 => MovePlace::ReadSlot {
-            booked: booked,
+    let booked = booked_of(c)?;
+    match c.row {
+        0 => Some(MovePlace::ReadSlot {
+            booked,
             moved: c.fifth,
-        },
-        1 => MovePlace::WriteSlot {
-            booked: booked,
+        }),
+        1 => Some(MovePlace::WriteSlot {
+            booked,
             moved: c.fifth,
-            token: w.number,
-        },
-        _ => MovePlace::Land {
-            booked: booked,
-            last: w.number,
-        },
+            token: c.call.number,
+        }),
+        2 => Some(MovePlace::Land {
+            booked,
+            last: c.call.number,
+        }),
+        _ => None,
     }
 }
 
 #[tactic(auto, unfolding(crate::specs::PlaceWords::close_of))]
-fn close_of(c: PlaceWords) -> ClosePlace
-    ensures { result ≡ C.close_of c }
+fn close_of(c: PlaceWords) -> Option<ClosePlace>
+    ensures { result ≡ C.where_known (ltb c.row 3) (C.close_of c) }
 {
-    let row = c.row;
-    match row {
-        0 => ClosePlace::StoreCompleted { head: c.second },
-        1 => ClosePlace::LoadHeads,
-        _ => ClosePlace::CasHeads { packed: c.packed },
+    match c.row {
+        0 => Some(ClosePlace::StoreCompleted { head: c.second }),
+        1 => Some(ClosePlace::LoadHeads),
+        2 => Some(ClosePlace::CasHeads { packed: c.packed }),
+        _ => None,
     }
 }
 
-#[tactic(auto, unfolding(crate::specs::PlaceWords::place_of))]
-fn place_of(c: PlaceWords) -> Place
-    ensures { result ≡ C.place_of c }
+#[tactic(auto, unfolding(crate::specs::PlaceWords::known, crate::specs::PlaceWords::place_of))]
+fn place_of(c: PlaceWords) -> Option<Place>
+    ensures { result ≡ C.where_known (C.known c) (C.place_of c) }
 {
-    let w = c.call;
-    let role = c.role;
-    match role {
-        0 => Place::Idle,
-        1 => Place::Lifo(lifo_of(c)),
-        2 => Place::Fifo(fifo_of(c)),
-        3 => Place::Own(own_of(c)),
-        4 => Place::Book(booking_of(c), book_of(c)),
-        5 => Place::Move(move_of(c)),
-        _ => Place::Close(closing_of(w, c.first), close_of(c)),
-    }
+    Some(match c.role {
+        0 if c.row == 0 => Place::Idle,
+        1 => Place::Lifo(lifo_of(c)?),
+        2 => Place::Fifo(fifo_of(c)?),
+        3 => Place::Own(own_of(c)?),
+        4 => Place::Book(booking_of(c)?, book_of(c)?),
+        5 => Place::Move(move_of(c)?),
+        6 => Place::Close(closing_of(c.call, c.first)?, close_of(c)?),
+        _ => return None,
+    })
 }
 
-fn both(a: bool, b: bool) -> bool
-    ensures { result ≡ andb a b }
-{
-    if a { b } else { false }
-}
+// Numbers that are no place's.
+#[derive(Clone, Copy, Debug, PartialEq, Eq)]
+pub struct NoPlace;
 
-fn either(a: bool, b: bool) -> bool
-    ensures { result ≡ orb a b }
-{
-    if a { true } else { b }
-}
+impl TryFrom<PlaceWords> for Place {
+    type Error = NoPlace;
 
-fn between(lo: u64, hi: u64, n: u64) -> bool
-    ensures { result ≡ C.between lo hi n }
-{
-    if n < lo { false } else { n < hi }
-}
+    ghost try_from_gives = { λ c r. r ≡ pick (C.known c) (Ok (C.place_of c)) (Err (record {})) };
 
-fn lifo_known(row: u64, tag: u64, rule: u64) -> bool
-    ensures { result ≡ C.lifo_known row tag rule }
-{
-    if row < 3 {
-        both(tag < 5, rule < 4)
-    } else {
-        row < 8
-    }
-}
-
-fn fifo_known(row: u64, tag: u64, rule: u64) -> bool
-    ensures { result ≡ C.fifo_known row tag rule }
-{
-    if row < 2 {
-        return tag < 3;
-    }
-    if row < 4 {
-        return both(between(3, 5, tag), rule < 4);
-    }
-    row < 9
-}
-
-fn book_known(row: u64, tag: u64, rule: u64) -> bool
-    ensures { result ≡ C.book_known row tag rule }
-{
-    both(row < 7, both(between(3, 6, tag), rule < 4))
-}
-
-fn move_known(row: u64, tag: u64) -> bool
-    ensures { result ≡ C.move_known row tag }
-{
-    both(row < 3, between(3, 5, tag))
-}
-
-fn close_known(row: u64, tag: u64) -> bool
-    ensures { result ≡ C.close_known row tag }
-{
-    both(row < 3, either(between(3, 5, tag), between(6, 8, tag)))
-}
-
-#[tactic(auto, unfolding(crate::specs::PlaceWords::known))]
-fn known(c: PlaceWords) -> bool
-    ensures { result ≡ C.known c }
-{
-    let w = c.call;
-    let role = c.role;
-    match role {
-        0 => c.row == 0,
-        1 => lifo_known(c.row, w.tag, w.rule),
-        2 => fifo_known(c.row, w.tag, w.rule),
-        3 => c.row < 7,
-        4 => book_known(c.row, w.tag, w.rule),
-        5 => move_known(c.row, w.tag),
-        6 => close_known(c.row, w.tag),
-        _ => false,
+    fn try_from(c: PlaceWords) -> Result<Self, NoPlace> {
+        place_of(c).ok_or(NoPlace)
     }
 }
 
 // The last of all numbers is no party's, so the record test refuses this place.
-fn nobodys() -> Place
-    ensures { result ≡ C.nobodys }
-{
-    Place::Close(
-        ClosingCall::Steal {
-            source: 0xffff_ffff_ffff_ffff,
-            count: 0,
-        },
-        ClosePlace::LoadHeads,
-    )
-}
+const NOBODYS: Place = Place::Close(
+    ClosingCall::Steal {
+        source: u64::MAX,
+        count: 0,
+    },
+    ClosePlace::LoadHeads,
+);
 
 #[tactic(auto, unfolding(crate::specs::PlaceWords::place_read))]
 pub fn place(c: PlaceWords) -> Place
     ensures { result ≡ C.place_read c }
 {
-    if known(c) { place_of(c) } else { nobodys() }
+    Place::try_from(c).unwrap_or(NOBODYS)
 }

@@ -1,13 +1,12 @@
 // A whole machine written into a block: only opening does it.
-ghost use Rattle.std.specs.Prelude.{◌≡◌, ◌≤◌, length, drop};
+ghost use Rattle.std.specs.Prelude.{◌≡◌, ◌≤◌, drop};
 ghost use Rattle.words.specs.Edition.{width};
 ghost use Rattle.tables.specs.Machine.{most};
 ghost use Rattle.block.specs.Block as B;
 ghost use Rattle.block.specs.Contents as Hd;
 ghost use Rattle.block.specs.Opening as O;
 
-use super::layout::{LAYOUT, PARTIES_BASE, SEAL};
-use super::{entry, layout};
+use super::layout::{LAYOUT, PARTIES_BASE, SEAL, WordsMut};
 use tables::state::{MOST, Machine};
 
 // The seal, the layout, the parties, and no answer yet.
@@ -21,19 +20,14 @@ fn head_words(parties: u32) -> [u64; PARTIES_BASE]
     out
 }
 
-pub fn store(block: &mut [u64], m: Machine)
-    requires long { B.size most ≤ length block.old }
-    requires few { m.parties ≤ most }
-    ensures { Hd.contents_in width most block.new ≡ O.fresh (drop (B.size most) block.old) m }
+pub fn store(to: &mut WordsMut<'_>, m: Machine)
+    requires { m.parties ≤ most }
+    ensures same { to.new.words.ghost_name ≡ to.old.words.ghost_name }
+    ensures contents { Hd.contents_in width most to.new.words.now ≡ O.fresh (drop (B.size most) to.old.words.now) m }
 {
-    let head = head_words(m.parties);
-    layout::put_words(block, 0, &head);
-    let mut i: usize = 0;
-    while i < MOST {
-        let p = m.party[i];
-        let q = m.queue[i];
-        entry::put_party(block, i, p);
-        entry::put_queue(block, i, q);
-        i += 1;
+    to.put(0, &head_words(m.parties));
+    for i in 0..MOST {
+        to.put_party(i, m.party[i]);
+        to.put_queue(i, m.queue[i]);
     }
 }

@@ -1,6 +1,6 @@
 // What a host in C or Rust calls: numbers, slices, and the machine as a block of words that the host owns. The crate `host_c` exports
 // each of these under its name. docs/HOST.md has the table.
-ghost use Rattle.std.specs.Prelude.{◌≡◌, List, ℕ, length, get_or};
+ghost use Rattle.std.specs.Prelude.{◌≡◌, List, ℕ, IsErr, length, get_or};
 ghost use Rattle.words.specs.Edition.{width};
 ghost use Rattle.tables.specs.Machine.{most};
 ghost use Rattle.tables.specs.declared.call.Act.TheVariants as Act;
@@ -8,14 +8,13 @@ ghost use Rattle.block.specs.Block as B;
 ghost use Rattle.block.specs.Contents.{contents_in, left};
 ghost use Rattle.block.specs.Look as L;
 ghost use Rattle.block.specs.Opening as O;
+ghost use Rattle.host.specs.Fault.{code_of};
 ghost use Rattle.host.specs.Numbers as N;
 
+use super::fault::Fault;
 use super::numbers;
 use block::layout::SIZE;
 use tables::call::Act;
-
-// What is returned for numbers that name no call, rule or mark: none of document 01's refusals.
-const MALFORMED: u8 = 100;
 
 // How many 64-bit words a block has.
 pub fn ragnulois_words() -> u64
@@ -32,15 +31,16 @@ pub fn ragnulois_open(
     requests: &[u64],
     positions: &[u32],
     items: &[u64],
-) -> u8
-    ensures block_is { O.left_at result (contents_in width most block.new)
+) -> Result<(), Fault>
+    ensures block_is { O.left_at (code_of result) (contents_in width most block.new)
         ≡ O.opened width most block.old kind parties requests.now positions.now (length items.now) }
     ensures kept { O.IsUntouched most block.old kind → block.new ≡ block.old }
 {
-    block::open::open(block, kind, parties, requests, positions, items)
+    Ok(block::open::open(block, kind, parties, requests, positions, items)?)
 }
 
 // Begin a call: malformed, or refusal 1, 2, 3 or 5.
+#[tactic(auto, unfolding(crate::specs::Numbers::begun))]
 pub fn ragnulois_begin(
     block: &mut [u64],
     items: &mut [u64],
@@ -49,46 +49,44 @@ pub fn ragnulois_begin(
     source: u64,
     rule: u64,
     number: u64,
-) -> u8
-    ensures outcome { record { held = contents_in width most block.new; items = items.new; refusal = result }
+) -> Result<(), Fault>
+    ensures outcome { record { held = contents_in width most block.new; items = items.new; refusal = code_of result }
         ≡ N.begun width most (contents_in width most block.old) items.old party call source rule number }
-    ensures kept { (result ≡ 0 → ⊥) → block.new ≡ block.old }
+    ensures kept { IsErr result → block.new ≡ block.old }
 {
-    if numbers::call_known(call, rule) {
-        let begun = numbers::call_of(call, source, rule, number);
-        block::entry::act(block, items, party, Act::Begin(begun))
-    } else {
-        MALFORMED
-    }
+    let call = numbers::call_of(call, source, rule, number).ok_or(Fault::Malformed)?;
+    Ok(block::entry::act(block, items, party, Act::Begin(call))?)
 }
 
 // One step: malformed, or refusal 1, 2, 4 or 6.
+#[tactic(auto, unfolding(crate::specs::Numbers::stepped))]
 pub fn ragnulois_step(
     block: &mut [u64],
     items: &mut [u64],
     party: u64,
     mark: u64,
     number: u64,
-) -> u8
-    ensures outcome { record { held = contents_in width most block.new; items = items.new; refusal = result }
+) -> Result<(), Fault>
+    ensures outcome { record { held = contents_in width most block.new; items = items.new; refusal = code_of result }
         ≡ N.stepped width most (contents_in width most block.old) items.old party mark number }
-    ensures kept { (result ≡ 0 → ⊥) → block.new ≡ block.old }
+    ensures kept { IsErr result → block.new ≡ block.old }
 {
-    if mark < 4 {
-        let with = numbers::mark_of(mark, number);
-        block::entry::act(block, items, party, Act::Step(with))
-    } else {
-        MALFORMED
-    }
+    let mark = numbers::mark_of(mark, number).ok_or(Fault::Malformed)?;
+    Ok(block::entry::act(block, items, party, Act::Step(mark))?)
 }
 
 // Run alone, up to a budget of steps: refusal 1, 2 or 4.
-pub fn ragnulois_run_alone(block: &mut [u64], items: &mut [u64], party: u64, budget: u64) -> u8
-    ensures outcome { record { held = contents_in width most block.new; items = items.new; refusal = result }
+pub fn ragnulois_run_alone(
+    block: &mut [u64],
+    items: &mut [u64],
+    party: u64,
+    budget: u64,
+) -> Result<(), Fault>
+    ensures outcome { record { held = contents_in width most block.new; items = items.new; refusal = code_of result }
         ≡ left width most (contents_in width most block.old) items.old party (Act.Alone budget) }
-    ensures kept { (result ≡ 0 → ⊥) → block.new ≡ block.old }
+    ensures kept { IsErr result → block.new ≡ block.old }
 {
-    block::entry::act(block, items, party, Act::Alone(budget))
+    Ok(block::entry::act(block, items, party, Act::Alone(budget))?)
 }
 
 // The machine's parties; 0 where the words are no block.

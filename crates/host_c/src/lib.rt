@@ -9,9 +9,21 @@ ghost use Rattle.block.specs.Block as B;
 ghost use Rattle.block.specs.Contents.{contents_in, left};
 ghost use Rattle.block.specs.Look as L;
 ghost use Rattle.block.specs.Opening as O;
+ghost use Rattle.host.specs.Fault.{code_of};
 ghost use Rattle.host.specs.Numbers as N;
 
 use host::export;
+use host::fault::Fault;
+
+// 0, the refusal's number, or 100 where numbers name nothing.
+fn code(outcome: Result<(), Fault>) -> u8
+    ensures { result ≡ code_of outcome }
+{
+    match outcome {
+        Ok(()) => 0,
+        Err(fault) => fault.into(),
+    }
+}
 
 // How many 64-bit words a block has.
 #[unsafe(no_mangle)]
@@ -35,7 +47,7 @@ pub extern "C" fn ragnulois_open(
         ≡ O.opened width most block.old kind parties requests.now positions.now (length items.now) }
     ensures kept { O.IsUntouched most block.old kind → block.new ≡ block.old }
 {
-    export::ragnulois_open(block, kind, parties, requests, positions, items)
+    code(export::ragnulois_open(block, kind, parties, requests, positions, items))
 }
 
 // Begin a call: malformed, or refusal 1, 2, 3 or 5.
@@ -53,7 +65,7 @@ pub extern "C" fn ragnulois_begin(
         ≡ N.begun width most (contents_in width most block.old) items.old party call source rule number }
     ensures kept { (result ≡ 0 → ⊥) → block.new ≡ block.old }
 {
-    export::ragnulois_begin(block, items, party, call, source, rule, number)
+    code(export::ragnulois_begin(block, items, party, call, source, rule, number))
 }
 
 // One step: malformed, or refusal 1, 2, 4 or 6.
@@ -69,7 +81,7 @@ pub extern "C" fn ragnulois_step(
         ≡ N.stepped width most (contents_in width most block.old) items.old party mark number }
     ensures kept { (result ≡ 0 → ⊥) → block.new ≡ block.old }
 {
-    export::ragnulois_step(block, items, party, mark, number)
+    code(export::ragnulois_step(block, items, party, mark, number))
 }
 
 // Run alone, up to a budget of steps: refusal 1, 2 or 4.
@@ -84,7 +96,7 @@ pub extern "C" fn ragnulois_run_alone(
         ≡ left width most (contents_in width most block.old) items.old party (Act.Alone budget) }
     ensures kept { (result ≡ 0 → ⊥) → block.new ≡ block.old }
 {
-    export::ragnulois_run_alone(block, items, party, budget)
+    code(export::ragnulois_run_alone(block, items, party, budget))
 }
 
 // The machine's parties; 0 where the words are no block.

@@ -1,11 +1,11 @@
 pub mod Lengths
 pub mod Noting
 pub mod Desks
+pub mod Told
 pub mod Turns
 pub mod Running
 pub mod Acts
 pub mod Surveys
-pub mod Applied
 pub mod Rows
 pub mod Opens
 pub mod Rests

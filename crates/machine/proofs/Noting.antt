@@ -6,14 +6,15 @@ use mathlib.Core.List.{List, [], ◌∷◌}
 use native.Mathlib.Omega.{arith}
 use lib.Dec.{eqb}
 use lib.ListN.{length}
+use Rattle.std.specs.Prelude.{Option, Some, None}
 use Rattle.words.specs.Word.{pick}
 use Rattle.tables.specs.declared.answer.Effect.{Effect}
 use Rattle.tables.specs.declared.answer.Effects.{Effects}
-use Rattle.tables.specs.Effect.{is_none, drops_of}
 use Rattle.tables.specs.Step.{joins, merged, appended, noted, three_effects}
 use Rattle.tables.proofs.Bools.{pick_if}
 use Rattle.tables.proofs.Effects.{DropsMost}
-use Rattle.machine.specs.Note.{with', note_more, note, CountFits}
+use Rattle.tables.proofs.Maybe.{change_in, drops_maybe}
+use Rattle.machine.specs.Note.{with', note_more, note, dropped_by, CountFits}
 use Rattle.machine.specs.Desk.{Roomy}
 
 appended_more : (l : List Effect) (e : Effect) → length l ≤ length (appended l e)
@@ -23,9 +24,10 @@ appended_more (x ∷ []) e = pick_if (λ (l : List Effect). 1 ≤ length l) (joi
 appended_more (x ∷ y ∷ l) e = omega (arith, appended_more (y ∷ l) e)
 
 -- one more noted is the list's, where it comes to three at most
-pub note_is : (l : List Effect) (e : Effect) → length (noted l e) ≤ 3 → note (three_effects l) e ≡ three_effects (noted l e)
+pub note_is : (l : List Effect) (e : Option Effect) → length (noted l e) ≤ 3 → note (three_effects l) e ≡ three_effects (noted l e)
 unfolding appended
-note_is l e h = at (is_none e.change) l h
+note_is l None h = refl
+note_is l (Some e) h = at l h
   where
     one : (j : Bool) (x : Effect)
         → pick j (with' (three_effects (x ∷ [])) 0 (merged x e) 1) (with' (three_effects (x ∷ [])) 1 e 2)
@@ -45,14 +47,13 @@ note_is l e h = at (is_none e.change) l h
     three true x y z k = refl
     three false x y z k = absurd (omega arith)
 
-    at : (b : Bool) (l : List Effect) → length (pick b l (appended l e)) ≤ 3
-        → pick b (three_effects l) (pick (eqb (length l) 0) (with' (three_effects l) 0 e 1) (note_more (three_effects l) e)) ≡ three_effects (pick b l (appended l e))
-    at true l k = refl
-    at false [] k = refl
-    at false (x ∷ []) k = one (joins x e) x
-    at false (x ∷ y ∷ []) k = two (joins y e) x y
-    at false (x ∷ y ∷ z ∷ []) k = three (joins z e) x y z k
-    at false (x ∷ y ∷ z ∷ u ∷ l) k = absurd (omega (arith, appended_more (x ∷ y ∷ z ∷ u ∷ l) e))
+    at : (l : List Effect) → length (appended l e) ≤ 3
+        → pick (eqb (length l) 0) (with' (three_effects l) 0 e 1) (note_more (three_effects l) e) ≡ three_effects (appended l e)
+    at [] k = refl
+    at (x ∷ []) k = one (joins x e) x
+    at (x ∷ y ∷ []) k = two (joins y e) x y
+    at (x ∷ y ∷ z ∷ []) k = three (joins z e) x y z k
+    at (x ∷ y ∷ z ∷ u ∷ l) k = absurd (omega (arith, appended_more (x ∷ y ∷ z ∷ u ∷ l) e))
 
 -- the count of dropped ones has room for one more
 pub roomy_of : (n : ℕ) (l : List Effect) → n + 1 < 2 ^ 64 → length l ≤ 3 → DropsMost n l → Roomy (three_effects l)
@@ -62,5 +63,10 @@ roomy_of n (x ∷ y ∷ []) h few m = omega (arith, m.1.0)
 roomy_of n (x ∷ y ∷ z ∷ []) h few m = omega (arith, m.1.1.0)
 roomy_of n (x ∷ y ∷ z ∷ u ∷ l) h few m = absurd (omega arith)
 
-pub count_fits : (l : Effects) (e : Effect) → Roomy l → drops_of e.change ≤ 1 → CountFits l e
+-- what an effect drops, by its change
+pub dropped_change : (e : Option Effect) → dropped_by e ≡ drops_maybe (change_in e)
+dropped_change None = refl
+dropped_change (Some e) = refl
+
+pub count_fits : (l : Effects) (e : Option Effect) → Roomy l → dropped_by e ≤ 1 → CountFits l e
 count_fits l e r h = omega (arith, r)

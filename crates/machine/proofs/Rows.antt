@@ -1,25 +1,26 @@
 -- For a loop that holds the machine in one local: on a record that passed the test once, a line's act is the machine's, made of one
 -- party and two queues, and the record passes the test afterwards. In range, the places of the table are the party's number and its
 -- source's, so the row looked up is the machine's own.
-use Prim.Native.Nat.{ℕ, ◌+◌, ◌*◌, ◌%◌, ◌^◌, ◌≤◌, ◌<◌}
-use mathlib.Core.Path.{◌≡◌, refl, sym, ap, ap₂, subst, ◌∙◌}
+use Prim.Native.Nat.{ℕ, ◌+◌, ◌%◌, ◌≤◌, ◌<◌}
+use mathlib.Core.Path.{◌≡◌, refl, sym, ap, ap₂, ◌∙◌}
 use mathlib.Core.Bool.{Bool, true, false}
-use mathlib.Core.List.{List}
-use mathlib.Core.Logic.{⊎_elim}
+use mathlib.Core.List.{List, []}
 use native.Mathlib.Omega.{arith}
-use native.Mathlib.Nat.{mod-lt, mod-eq_of_lt}
-use borrow.Author.Tests.{ltb-true, le-leb}
+use native.Mathlib.Nat.{mod-eq_of_lt}
+use borrow.Author.Tests.{ltb-true}
 use borrow.Rule.Slice.PartMut.{put_mid}
-use lib.Dec.{ltb, leb}
-use lib.ListN.{length, length-set, get_or, set}
-use lib.Seq.{get_or-set_same, get_or-set_other}
+use lib.Dec.{ltb}
+use Rattle.std.specs.Prelude.{Option, None, Result, Ok, Err}
+use lib.ListN.{length, get_or, set}
 use Rattle.words.specs.Edition.{width}
-use Rattle.words.specs.Word.{pick, Pow}
+use Rattle.words.specs.Word.{Pow}
 use Rattle.words.proofs.Powers.{power_of, pow_positive}
 use Rattle.tables.specs.declared.access.Next.{Next}
 use Rattle.tables.specs.declared.access.Seen.{Seen}
-use Rattle.tables.specs.declared.access.Whose.{Whose}
 use Rattle.tables.specs.declared.answer.Answer.{Answer}
+use Rattle.tables.specs.declared.answer.Effects.{Effects}
+use Rattle.tables.specs.declared.answer.Refusal.{Refusal}
+use Rattle.tables.specs.declared.answer.Reply.{Reply}
 use Rattle.tables.specs.declared.call.Act.{Act}
 use Rattle.tables.specs.declared.call.Call.{Call}
 use Rattle.tables.specs.declared.call.Mark.{Mark}
@@ -27,21 +28,21 @@ use Rattle.tables.specs.declared.state.Machine.{Machine}
 use Rattle.tables.specs.declared.state.Queue.{Queue}
 use Rattle.tables.specs.Access.{Accessed, shows, perform}
 use Rattle.tables.specs.Machine.{most, party_at, queue_at, base_of, stretch, restretched}
+use Rattle.tables.specs.Refusal.{told, refusal_of}
 use Rattle.tables.specs.Tables.{row_of, source_of, start}
-use Rattle.tables.specs.Step.{Outcome, Result, refused, sound, with_party, place_at, source_at, begin_order, begin_refusal, site, site_at}
-use Rattle.tables.specs.Step.{is_weak, row_at, access_at, next_at, stored, taken, step_order, step_refusal, of_outcome, acted}
-use Rattle.tables.proofs.Bools.{pick_yes, pick_no, equal_or_not}
+use Rattle.tables.specs.Step.{Outcome, AfterAct, refused, sound, with_party, place_at, source_at, begin_order, begin_refusal, site, site_at}
+use Rattle.tables.specs.Step.{is_weak, row_at, access_at, next_at, stored, taken, step_order, step_refusal, noted}
+use Rattle.tables.specs.Step.{three_effects, of_outcome, acted}
+use Rattle.tables.proofs.Bools.{pick_yes, pick_no}
 use Rattle.tables.proofs.Refused as R
 use Rattle.tables.proofs.Refused.{zero_then, begin_if, step_if}
 use Rattle.tables.proofs.Sound as S
 use Rattle.tables.proofs.Sound.{Sound, sound_facts, Alike, bases_alike, site_below}
-use Rattle.tables.proofs.Steps.{step_alike, step_length, step_sound, begin_alike, begin_items, begin_sound}
+use Rattle.tables.proofs.Steps.{step_alike, step_length, step_sound, begin_alike, begin_sound}
 use Rattle.machine.specs.declared.row.Look.{Look}
-use Rattle.machine.specs.declared.soundness.Survey.{Survey}
-use Rattle.machine.specs.Desk.{fine, surveyed, passed}
 use Rattle.machine.specs.Look.{look, context_for, Fit}
-use Rattle.machine.proofs.Surveys.{Surveyed, survey_none, passed_is, few_bound}
-use Rattle.machine.proofs.Applied.{by_value, more}
+use Rattle.machine.proofs.Told.{Test, ok_code, err_code, told_some}
+use Rattle.machine.proofs.Acts.{still_here}
 use Rattle.machine.proofs.Turns.{put_is}
 
 -- ---- what the loop keeps
@@ -65,18 +66,18 @@ module _ {m : Machine} {starts : List ℕ} (xs : List ℕ) (fit : Fit m starts (
       → Fit (acted width most m xs who (Act.Step mark)).machine starts (length (acted width most m xs who (Act.Step mark)).items)
   fit_step mark = fit_alike _ fit (step_alike width most m xs who mark) (step_sound width most m xs who mark fit.passes)
 
-pub length_begin : (m : Machine) (xs : List ℕ) (who : ℕ) (call : Call) → length (acted width most m xs who (Act.Begin call)).items ≡ length xs
-length_begin m xs who call = ap length (begin_items width most m xs who call)
-
 pub length_step : (m : Machine) (xs : List ℕ) (who : ℕ) (mark : Mark) → length (acted width most m xs who (Act.Step mark)).items ≡ length xs
 length_step m xs who mark = step_length width most m xs who mark
 
 -- what an act comes to that nothing refuses
-pub record Took (o : Result) (k : Machine) (ys : List ℕ) (a : Answer) : Type 0 where
+pub record Took (o : AfterAct) (k : Machine) (ys : List ℕ) (a : Option Answer) : Type 0 where
   pub machine : o.machine ≡ k
   pub items : o.items ≡ ys
-  pub answer : o.reply.answer ≡ a
-  pub refusal : o.reply.refusal ≡ 0
+  pub effects : Effects
+  pub reply : o.reply ≡ Ok (record { answer = a; effects = effects; steps = 0 })
+
+refused_here : (m : Machine) (xs : List ℕ) (k : ℕ) → (k ≡ 0 → ⊥) → of_outcome (refused m xs k) ≡ still_here m xs (refusal_of k)
+refused_here m xs k n = ap (λ (r : Result Reply Refusal). record { machine = m; items = xs; reply = r }) (told_some k _ n)
 
 -- ---- a line: x and y are its party's place of the table and its source's
 
@@ -99,79 +100,97 @@ module _ {m : Machine} {starts : List ℕ} (xs : List ℕ) (fit : Fit m starts (
 
   -- ---- begin
 
-  module _ (call : Call) (code : ℕ) (code_is : code ≡ begin_order true m.parties who (party_at m x).place call) where
-    begin_code_is : code ≡ begin_refusal width most m (length xs) who call
+  module _ (call : Call) where
+    abbrev begin_code : ℕ
+    begin_code = begin_order true m.parties who (party_at m x).place call
+
+    begin_code_is : begin_code ≡ begin_refusal width most m (length xs) who call
     unfolding begin_refusal
-    begin_code_is = code_is ∙ by (ltb who m.parties) refl ∙ sym (pick_yes (sound width most m (length xs)) _ 1 fit.passes)
+    begin_code_is = by (ltb who m.parties) refl ∙ sym (pick_yes (sound width most m (length xs)) _ 1 fit.passes)
       where
-        by : (b : Bool) → ltb who m.parties ≡ b
-            → begin_order true m.parties who (party_at m x).place call ≡ begin_order true m.parties who (party_at m who).place call
+        by : (b : Bool) → ltb who m.parties ≡ b → begin_code ≡ begin_order true m.parties who (party_at m who).place call
         by true h = ap (λ (j : ℕ). begin_order true m.parties who (party_at m j).place call) (at_who (ltb-true _ _ h))
         by false h = pick_no (ltb who m.parties) _ 2 h ∙ sym (pick_no (ltb who m.parties) _ 2 h)
 
-    pub begin_refused : (code ≡ 0 → ⊥) → acted width most m xs who (Act.Begin call) ≡ of_outcome (refused m xs code)
-    begin_refused n =
-        begin_if width most m who call xs (λ (o : Outcome). of_outcome o ≡ of_outcome (refused m xs code))
-        (λ e. absurd (n (begin_code_is ∙ e))) (λ e. ap (λ (k : ℕ). of_outcome (refused m xs k)) (sym begin_code_is))
+    pub begin_refused : {e : Refusal} → ◌≡◌ {A = Test} (Err e) (told begin_code tt)
+        → acted width most m xs who (Act.Begin call) ≡ still_here m xs e
+    begin_refused {e} p =
+        let c : (begin_code ≡ 0 → ⊥) × (e ≡ refusal_of begin_code) = err_code begin_code tt p in
+        begin_if width most m who call xs (λ (o : Outcome). of_outcome o ≡ still_here m xs e)
+        (λ z. absurd (c.0 (begin_code_is ∙ z)))
+        (λ n. refused_here m xs _ n ∙ ap (still_here m xs) (ap refusal_of (sym begin_code_is) ∙ sym c.1))
 
-    pub begin_taken : code ≡ 0 → Took (acted width most m xs who (Act.Begin call))
+    pub begin_taken : ◌≡◌ {A = Test} (Ok tt) (told begin_code tt) → Took (acted width most m xs who (Act.Begin call))
         (record {
           parties = m.parties;
           party = set m.party x (record { place = start (queue_at m x).kind call; drain = (party_at m x).drain });
           queue = m.queue;
         })
-        xs Answer.Pending
-    begin_taken clear =
-        begin_if width most m who call xs (λ (o : Outcome). Took (of_outcome o) (kept x) xs Answer.Pending)
-        (λ e. record { machine = ap kept (sym (at_who here)); items = refl; answer = refl; refusal = refl })
+        xs None
+    begin_taken p =
+        begin_if width most m who call xs (λ (o : Outcome). Took (of_outcome o) (kept x) xs None)
+        (λ e. record { machine = ap kept (sym (at_who here)); items = refl; effects = _; reply = refl })
         (λ n. absurd (n (sym begin_code_is ∙ clear)))
       where
+        clear : begin_code ≡ 0
+        clear = (ok_code begin_code tt p).0
+
         here : who < m.parties
-        here = ltb-true _ _ (zero_then (ltb who m.parties) _ 2 (omega arith) (sym code_is ∙ clear)).0
+        here = ltb-true _ _ (zero_then (ltb who m.parties) _ 2 (omega arith) clear).0
 
         kept : ℕ → Machine
         kept j = with_party m j (record { place = start (queue_at m j).kind call; drain = (party_at m j).drain })
 
   -- ---- step
 
-  module _ (mark : Mark) (r : Look) (r-is : r ≡ look width m.parties who x y (party_at m x).place (context_for m x y mark)) where
+  module _ (mark : Mark) where
+    abbrev code_at : (a b : ℕ) → ℕ
+    code_at a b =
+        step_order true m.parties who (row_of width (context_for m a b mark) (party_at m a).place).access mark (party_at m a).place
+
     abbrev look_at : (a b : ℕ) → Look
-    look_at a b = look width m.parties who a b (party_at m a).place (context_for m a b mark)
+    look_at a b = record {
+      site = site (row_of width (context_for m a b mark) (party_at m a).place).whose a b;
+      access = (row_of width (context_for m a b mark) (party_at m a).place).access;
+    }
 
-    look_is : who < m.parties → r ≡ look_at who (source_at m who)
-    look_is h = r-is ∙ ap₂ look_at (at_who h) (at_source h)
-
-    step_code_is : r.code ≡ step_refusal width most m (length xs) who mark
+    step_code_is : code_at x y ≡ step_refusal width most m (length xs) who mark
     unfolding step_refusal
     step_code_is = by (ltb who m.parties) refl ∙ sym (pick_yes (sound width most m (length xs)) _ 1 fit.passes)
       where
         by : (b : Bool) → ltb who m.parties ≡ b
-            → r.code ≡ step_order true m.parties who (row_at width m who mark).access mark (place_at m who)
-        by true h = ap (λ (l : Look). l.code) (look_is (ltb-true _ _ h))
-        by false h =
-            ap (λ (l : Look). l.code) r-is ∙ pick_no (ltb who m.parties) _ 2 h ∙ sym (pick_no (ltb who m.parties) _ 2 h)
+            → code_at x y ≡ step_order true m.parties who (row_at width m who mark).access mark (place_at m who)
+        by true h = ap₂ code_at (at_who (ltb-true _ _ h)) (at_source (ltb-true _ _ h))
+        by false h = pick_no (ltb who m.parties) _ 2 h ∙ sym (pick_no (ltb who m.parties) _ 2 h)
 
-    pub step_refused : (r.code ≡ 0 → ⊥) → acted width most m xs who (Act.Step mark) ≡ of_outcome (refused m xs r.code)
-    step_refused n =
-        step_if width most m who mark xs (λ (o : Outcome). of_outcome o ≡ of_outcome (refused m xs r.code))
-        (λ e. absurd (n (step_code_is ∙ e))) (λ e. ap (λ (k : ℕ). of_outcome (refused m xs k)) (sym step_code_is))
+    abbrev looked : Result Look Refusal
+    looked = look width m.parties who x y (party_at m x).place (context_for m x y mark)
 
-    pub site_in : r.site < most
-    site_in = rw r-is (at (row_of width (context_for m x y mark) (party_at m x).place).whose)
-      where
-        at : (o : Whose) → site o x y < most
-        at Whose.Own = rw x-is (mod-lt who (omega arith))
-        at Whose.Source = rw y-is (mod-lt f (omega arith))
+    pub step_refused : {e : Refusal} → Err e ≡ looked → acted width most m xs who (Act.Step mark) ≡ still_here m xs e
+    step_refused {e} p =
+        let c : (code_at x y ≡ 0 → ⊥) × (e ≡ refusal_of (code_at x y)) = err_code (code_at x y) (look_at x y) p in
+        step_if width most m who mark xs (λ (o : Outcome). of_outcome o ≡ still_here m xs e)
+        (λ z. absurd (c.0 (step_code_is ∙ z)))
+        (λ n. refused_here m xs _ n ∙ ap (still_here m xs) (ap refusal_of (sym step_code_is) ∙ sym c.1))
 
-    module _ (clear : r.code ≡ 0) where
+    module _ (r : Look) (r-is : Ok r ≡ looked) where
+      clear : code_at x y ≡ 0
+      clear = (ok_code (code_at x y) (look_at x y) r-is).0
+
       here : who < m.parties
-      here = ltb-true _ _ (zero_then (ltb who m.parties) _ 2 (omega arith) (sym (ap (λ (l : Look). l.code) r-is) ∙ clear)).0
+      here = ltb-true _ _ (zero_then (ltb who m.parties) _ 2 (omega arith) clear).0
+
+      look_is : r ≡ look_at who (source_at m who)
+      look_is = (ok_code (code_at x y) (look_at x y) r-is).1 ∙ ap₂ look_at (at_who here) (at_source here)
 
       site_is : r.site ≡ site_at width m who mark
-      site_is = ap (λ (l : Look). l.site) (look_is here)
+      site_is = ap (λ (l : Look). l.site) look_is
 
       site_there : r.site < m.parties
       site_there = rw site_is (site_below width most m xs who mark (length xs) facts here)
+
+      pub site_in : r.site < most
+      site_in = omega (arith, site_there, facts.few)
 
       base_is : get_or starts r.site 0 ≡ base_of r.site m.queue
       base_is = fit.at r.site site_there
@@ -194,7 +213,7 @@ module _ {m : Machine} {starts : List ℕ} (xs : List ℕ) (fit : Fit m starts (
             done
             ∙ ap₂ (λ (b c : ℕ). perform (queue_at m r.site) (stretch b c xs) r.access (is_weak mark)) base_is n-is
             ∙ ap (λ (l : Look). perform (queue_at m l.site) (stretch (base_of l.site m.queue) (queue_at m l.site).capacity xs)
-            l.access (is_weak mark)) (look_is here)
+            l.access (is_weak mark)) look_is
 
         next_at_lem : next ≡ next_at width m xs who mark
         next_at_lem =
@@ -214,10 +233,13 @@ module _ {m : Machine} {starts : List ℕ} (xs : List ℕ) (fit : Fit m starts (
             (restretched (get_or starts r.site 0) (queue_at m r.site).capacity slots' xs) next.answer
         unfolding taken
         step_taken = record {
-          machine = ap (λ (o : Result). o.machine) step_is ∙ sym machine_is;
-          items = ap (λ (o : Result). o.items) step_is ∙ sym items_is;
-          answer = ap (λ (o : Result). o.reply.answer) step_is ∙ sym (ap (λ (a : Next). a.answer) next_at_lem);
-          refusal = ap (λ (o : Result). o.reply.refusal) step_is;
+          machine = ap (λ (o : AfterAct). o.machine) step_is ∙ sym machine_is;
+          items = ap (λ (o : AfterAct). o.items) step_is ∙ sym items_is;
+          effects = three_effects (noted [] (taken width m xs who mark).effect);
+          reply =
+              let es = three_effects (noted [] (taken width m xs who mark).effect) in
+              ap (λ (o : AfterAct). o.reply) step_is
+              ∙ ap (λ (a : Next). Ok (record { answer = a.answer; effects = es; steps = 0 })) (sym next_at_lem);
         }
           where
             machine_is : stored m x r.site next q'
@@ -236,60 +258,3 @@ module _ {m : Machine} {starts : List ℕ} (xs : List ℕ) (fit : Fit m starts (
         step_items =
             put_is xs (get_or starts r.site 0) n slots'
             ∙ ap (λ (c : ℕ). restretched (get_or starts r.site 0) c slots' xs) n-is ∙ sym step_taken.items
-
--- ---- the starts: after i turns, the survey of the first i entries and where their stretches start
-
-pub record Started (m : Machine) (bound i : ℕ) (at : List ℕ) (s : Survey) : Type 0 where
-  pub within : i ≤ bound
-  pub few : bound ≤ most
-  pub small : s.total ≤ i * 2 ^ width
-  pub seen : Surveyed width m 0 0 i s
-  pub many : length at ≡ most
-  pub starts : (j : ℕ) → j < i → get_or at j 0 ≡ base_of j m.queue
-
-module _ (m : Machine) {bound : ℕ} (bound-is : bound ≡ pick (leb m.parties most) m.parties 0) where
-  pub started_none : {s : Survey} (at : List ℕ) → length at ≡ most → s ≡ record { sound = true; total = 0; own = 0; source = 0 }
-      → Started m bound 0 at s
-  started_none at l e = record {
-    within = omega arith;
-    few = few_bound most m.parties bound-is;
-    small = omega (arith, ap (λ (s : Survey). s.total) e);
-    seen = subst (λ (s : Survey). Surveyed width m 0 0 0 s) (sym e) (survey_none width m 0 0);
-    many = l;
-    starts = λ j h. absurd (omega arith);
-  }
-
-  module _ (parties_many : length m.party ≡ most) (queues_many : length m.queue ≡ most) where
-    pub started_more : {i : ℕ} {at : List ℕ} {s s' : Survey} (source : ℕ) (good : Bool) → i < bound → Started m bound i at s
-        → source ≡ source_of i (party_at m i).place
-        → good ≡ fine width m.parties source (queue_at m (source % most)).kind (party_at m i).place (queue_at m i)
-        → s' ≡ surveyed 0 0 i s good (queue_at m i) → s'.total < s.total + 2 ^ width
-        → Started m bound (i + 1) (set at i s.total) s'
-    started_more {i} {at} {s} {s'} source good h t es eg e less = record {
-      within = omega arith;
-      few = t.few;
-      small = omega (arith, t.small);
-      seen = subst (λ (x : Survey). Surveyed width m 0 0 (i + 1) x) (sym e)
-          (more (by_value m parties_many queues_many) 0 0 bound bound-is i s source good h t.seen es eg);
-      many = length-set at i s.total ∙ t.many;
-      starts = λ j l. ⊎_elim (λ q. here j q) (λ n. get_or-set_other at i j s.total 0 n ∙ t.starts j (omega (arith, n))) (equal_or_not j i);
-    }
-      where
-        here : (j : ℕ) → j ≡ i → get_or (set at i s.total) j 0 ≡ base_of j m.queue
-        here j q = rw q (get_or-set_same at i s.total 0 (rw t.many (omega (arith, t.few))) ∙ t.seen.total_is)
-
-  module _ {i : ℕ} {at : List ℕ} {s : Survey} (t : Started m bound i at s) (ends : bound ≤ i) where
-    i_is : i ≡ bound
-    i_is = omega (arith, t.within)
-
-    pub started_sound : (lent : ℕ) → passed most m.parties lent s ≡ sound width most m lent
-    started_sound lent =
-        passed_is width most m 0 0 bound lent s bound-is (subst (λ (n : ℕ). Surveyed width m 0 0 n s) i_is t.seen)
-
-    pub started_at : (lent : ℕ) → sound width most m lent ≡ true → (j : ℕ) → j < m.parties → get_or at j 0 ≡ base_of j m.queue
-    started_at lent ok j h = t.starts j (rw (i_is, all) h)
-      where
-        all : bound ≡ m.parties
-        all =
-            bound-is ∙ pick_yes (leb m.parties most) m.parties 0
-            (le-leb m.parties most (sound_facts width most m lent ok).few)

@@ -5,13 +5,14 @@ use mathlib.Core.Bool.{Bool, true, false, not}
 use mathlib.Core.List.{List, []}
 use native.Mathlib.Nat.{sub-zero}
 use native.Mathlib.Omega.{arith}
-use borrow.Author.Tests.{ltb-true, eq-eqb, ne_eqb}
-use lib.Dec.{ltb, eqb}
 use lib.ListN.{length}
 use Rattle.words.specs.Word.{pick, Pow}
 use Rattle.tables.specs.declared.access.Context.{Context}
 use Rattle.tables.specs.declared.access.Next.{Next}
 use Rattle.tables.specs.declared.access.Seen.{Seen}
+use Rattle.std.specs.Prelude.{Option, Some, None}
+use Rattle.tables.proofs.Maybe.{change_in}
+use Rattle.machine.specs.Note.{dropped_by}
 use Rattle.tables.specs.declared.answer.Effect.{Effect}
 use Rattle.tables.specs.declared.answer.Effects.{Effects}
 use Rattle.tables.specs.declared.call.Mark.{Mark}
@@ -19,13 +20,11 @@ use Rattle.tables.specs.declared.state.Queue.{Queue}
 use Rattle.tables.specs.declared.place.Place.{Place}
 use Rattle.tables.specs.Machine.{stretch}
 use Rattle.tables.specs.Answer.{is_pending}
-use Rattle.tables.specs.Effect.{is_none, drops_of}
 use Rattle.tables.specs.Tables.{row_of, wish_of, wishes}
 use Rattle.tables.specs.Step.{is_weak, appended, noted, until, three_effects}
 use Rattle.tables.proofs.Performed.{Kept, perform_keeps}
 use Rattle.tables.proofs.Bases.{stretch_length, restretched_length}
-use Rattle.tables.proofs.Bools.{neither, pick_if, pick_yes, pick_no}
-use Rattle.tables.proofs.Refused.{zero_then}
+use Rattle.tables.proofs.Bools.{neither, pick_yes, pick_no}
 use Rattle.tables.proofs.Effects.{effect_change, DropsMost, most_noted, drops_one, FewAt, few_at_none, few_on}
 use Rattle.machine.specs.Note.{note}
 use Rattle.machine.specs.declared.desk.Desk.{Desk}
@@ -34,9 +33,9 @@ use Rattle.machine.specs.declared.desk.Reached.{Reached}
 use Rattle.machine.specs.declared.desk.Stepped.{Stepped}
 use Rattle.machine.specs.declared.desk.Turn.{Turn}
 use Rattle.machine.specs.Desk.{With, with, desk_context, queue_for, desk_with, reach, reaches, desk_step, Ran, ran_on, ran_none}
-use Rattle.machine.specs.Desk.{ran_stops, desk_runs, turn_with, of_ran, turn_on, of_stepped, as_came, taking, Ready, Roomy}
+use Rattle.machine.specs.Desk.{ran_stops, desk_runs, turn_with, of_ran, turn_on, of_stepped, as_came, Ready, Roomy}
 use Rattle.machine.proofs.Turns.{Within, ready_reach}
-use Rattle.machine.proofs.Noting.{note_is, roomy_of}
+use Rattle.machine.proofs.Noting.{note_is, roomy_of, dropped_change}
 
 -- ---- one step keeps what the desk asks for
 
@@ -86,7 +85,6 @@ module _ (w : ℕ) (l : Stretches) (budget : ℕ) (start : Ran) where
   pub record Running (lent : ℕ) (t : Turn) (xs : List ℕ) : Type 0 where
     pub list : List Effect
     pub shown : t.reply.effects ≡ three_effects list
-    pub none_refused : t.reply.refusal ≡ 0
     pub few : FewAt t.desk.party.place list
     pub counts : DropsMost t.reply.steps list
     pub ready : Ready l t.desk lent
@@ -95,11 +93,10 @@ module _ (w : ℕ) (l : Stretches) (budget : ℕ) (start : Ran) where
     pub same : desk_runs w l (budget - t.reply.steps) (ran_of t xs list) ≡ desk_runs w l budget start
 
 pub running_start : (w : ℕ) (l : Stretches) (budget : ℕ) (d : Desk) (xs : List ℕ) → Ready l d (length xs)
-    → Running w l budget (ran_none d xs) (length xs) (as_came d 0) xs
+    → Running w l budget (ran_none d xs) (length xs) (as_came d) xs
 running_start w l budget d xs y = record {
   list = [];
   shown = refl;
-  none_refused = refl;
   few = few_at_none d.party.place;
   counts = tt;
   ready = y;
@@ -122,9 +119,8 @@ module _ (w : ℕ) (l : Stretches) (x : Ran) where
   unfolding until
   runs_on n m e h = rw e (pick_no (ran_stops x) x _ h)
 
-turn_of : (t : Turn) (xs : List ℕ) (es : List Effect) → t.reply.effects ≡ three_effects es → t.reply.refusal ≡ 0
-    → of_ran (ran_of t xs es) ≡ with t xs
-turn_of t xs es e z = λ i. with (turn_with t.desk t.reply.answer (sym e i) t.reply.steps (sym z i)) xs
+turn_of : (t : Turn) (xs : List ℕ) (es : List Effect) → t.reply.effects ≡ three_effects es → of_ran (ran_of t xs es) ≡ with t xs
+turn_of t xs es e = λ i. with (turn_with t.desk t.reply.answer (sym e i) t.reply.steps) xs
 
 module _ {w : ℕ} {l : Stretches} {budget : ℕ} {start : Ran} {lent : ℕ} {t : Turn} {xs : List ℕ} (g : Running w l budget start lent t xs) where
   abbrev now_at : Ran
@@ -136,11 +132,11 @@ module _ {w : ℕ} {l : Stretches} {budget : ℕ} {start : Ran} {lent : ℕ} {t 
   -- it has come to its budget, or it stops
   pub running_spent : t.reply.steps ≡ budget → with t xs ≡ of_ran (desk_runs w l budget start)
   running_spent e =
-      sym (ap of_ran (sym g.same ∙ runs_none w l now_at (budget - t.reply.steps) (omega arith)) ∙ turn_of t xs g.list g.shown g.none_refused)
+      sym (ap of_ran (sym g.same ∙ runs_none w l now_at (budget - t.reply.steps) (omega arith)) ∙ turn_of t xs g.list g.shown)
 
   pub running_stopped : ran_stops now_at ≡ true → with t xs ≡ of_ran (desk_runs w l budget start)
   running_stopped h =
-      sym (ap of_ran (sym g.same ∙ runs_stopped w l now_at (budget - t.reply.steps) h) ∙ turn_of t xs g.list g.shown g.none_refused)
+      sym (ap of_ran (sym g.same ∙ runs_stopped w l now_at (budget - t.reply.steps) h) ∙ turn_of t xs g.list g.shown)
 
   pub running_roomy : budget < 2 ^ 64 → t.reply.steps < budget → Roomy t.reply.effects
   running_roomy b h =
@@ -154,7 +150,6 @@ module _ {w : ℕ} {l : Stretches} {budget : ℕ} {start : Ran} {lent : ℕ} {t 
       subst (λ (z : With Turn). Running w l budget start lent z.value z.items) (sym eq) (record {
         list = noted g.list e;
         shown = rw g.shown (note_is g.list e (omega (arith, fewer.count)));
-        none_refused = refl;
         few = fewer;
         counts = most_noted t.reply.steps g.list e g.counts (rw change_is (drops_one w context place seen));
         ready = rw g.length_is at (desk_ready w l t.desk xs Mark.Plain here);
@@ -172,13 +167,13 @@ module _ {w : ℕ} {l : Stretches} {budget : ℕ} {start : Ran} {lent : ℕ} {t 
       seen : Seen
       seen = (reaches (reach w l t.desk Mark.Plain) xs Mark.Plain).seen
 
-      e : Effect
+      e : Option Effect
       e = next.value.effect
 
       here : Ready l t.desk (length xs)
       here = rw g.length_is g.ready
 
-      change_is : e.change ≡ ((row_of w context place).after seen).change
+      change_is : change_in e ≡ ((row_of w context place).after seen).change
       change_is = effect_change l.who (pick (reach w l t.desk Mark.Plain).away l.from l.who) l.from ((row_of w context place).after seen).change
 
       fewer : FewAt ((row_of w context place).after seen).place (noted g.list e)
@@ -186,43 +181,21 @@ module _ {w : ℕ} {l : Stretches} {budget : ℕ} {start : Ran} {lent : ℕ} {t 
 
 -- ---- what a step's effect drops, and the parts put together
 
-pub effect_drops : (w : ℕ) (l : Stretches) (d : Desk) (xs : List ℕ) (k : Mark) → drops_of (desk_step w l d xs k).value.effect.change ≤ 1
+pub effect_drops : (w : ℕ) (l : Stretches) (d : Desk) (xs : List ℕ) (k : Mark) → dropped_by (desk_step w l d xs k).value.effect ≤ 1
 unfolding desk_step
 effect_drops w l d xs k =
-    rw (effect_change l.who (pick (reach w l d k).away l.from l.who) l.from ((row_of w (desk_context d k) d.party.place).after (reaches (reach w l d k) xs k).seen).change)
+    rw (dropped_change (desk_step w l d xs k).value.effect, effect_change l.who (pick (reach w l d k).away l.from l.who) l.from ((row_of w (desk_context d k) d.party.place).after (reaches (reach w l d k) xs k).seen).change)
     (drops_one w (desk_context d k) d.party.place (reaches (reach w l d k) xs k).seen)
 
 pub step_drops : (w : ℕ) (l : Stretches) (d : Desk) (xs : List ℕ) (k : Mark) {o : Stepped} {ys : List ℕ} → with o ys ≡ desk_step w l d xs k
-    → drops_of o.effect.change ≤ 1
-step_drops w l d xs k e = subst (λ (z : With Stepped). drops_of z.value.effect.change ≤ 1) (sym e) (effect_drops w l d xs k)
+    → dropped_by o.effect ≤ 1
+step_drops w l d xs k e = subst (λ (z : With Stepped). dropped_by z.value.effect ≤ 1) (sym e) (effect_drops w l d xs k)
 
-pub turn_on_is : (t : Turn) (s : With Stepped) {o : Stepped} {ys : List ℕ} {es : Effects} {r : Turn} → with o ys ≡ s → es ≡ note t.reply.effects o.effect
-    → r ≡ turn_with o.desk o.answer es (t.reply.steps + 1) 0 → with r ys ≡ turn_on t s
-turn_on_is t s {o} {ys} eo ee er = rw (er, ee) (ap (turn_on t) eo)
-
--- ---- a code of 0
-
-pub code_clear : (ok : Bool) (n who x : ℕ) → pick ok (pick (ltb who n) x 2) 1 ≡ 0 → (ok ≡ true) × (who < n)
-code_clear ok n who x e =
-    let a = zero_then ok (pick (ltb who n) x 2) 1 (omega arith) e in
-    (a.0, ltb-true who n (zero_then (ltb who n) x 2 (omega arith) a.1).0)
-
-pub no_effects_roomy : Roomy (three_effects [])
-no_effects_roomy = omega arith
-
-one_noted : (e : Effect) → note (three_effects []) e ≡ three_effects (noted [] e)
+one_noted : (e : Option Effect) → note (three_effects []) e ≡ three_effects (noted [] e)
 unfolding appended
-one_noted e = note_is [] e (pick_if (λ (l : List Effect). length l ≤ 3) (is_none e.change) (λ h. omega arith) (λ h. omega arith))
+one_noted None = note_is [] None (omega arith)
+one_noted (Some e) = note_is [] (Some e) (omega arith)
 
 pub stepped_is : (s : With Stepped) {o : Stepped} {ys : List ℕ} {none es : Effects} {r : Turn} → with o ys ≡ s → none ≡ three_effects [] → es ≡ note none o.effect
-    → r ≡ turn_with o.desk o.answer es 0 0 → with r ys ≡ of_stepped s
+    → r ≡ turn_with o.desk o.answer es 0 → with r ys ≡ of_stepped s
 stepped_is s {o} {ys} eo en ee er = rw (er, ee, en, one_noted o.effect) (ap of_stepped eo)
-
--- an act goes by its refusal
-pub act_taken : (code' : ℕ) (a : With Turn) (d : Desk) (xs : List ℕ) {code : ℕ} {t : With Turn} → code ≡ code' → code ≡ 0 → t ≡ a → t ≡ taking code' a d xs
-act_taken code' a d xs e z h = h ∙ sym (pick_yes (eqb code' 0) a (with (as_came d code') xs) (eq-eqb code' 0 (sym e ∙ z)))
-
-pub act_refused : (code' : ℕ) (a : With Turn) (d : Desk) (xs : List ℕ) {code : ℕ} {t : Turn} → code ≡ code' → (code ≡ 0 → ⊥) → t ≡ as_came d code
-    → with t xs ≡ taking code' a d xs
-act_refused code' a d xs e z h =
-    rw (h, e) (sym (pick_no (eqb code' 0) a (with (as_came d code') xs) (ne_eqb code' 0 (λ i. z (e ∙ i)))))

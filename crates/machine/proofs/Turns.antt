@@ -7,26 +7,16 @@ use lib.ListN.{take}
 use native.Mathlib.Omega.{arith}
 use lib.Seq.{drop-drop}
 use borrow.Rule.Slice.PartMut.{put_mid}
-use Rattle.tables.specs.declared.access.Wanted.{Wanted}
 use Rattle.words.specs.Word.{Pow}
-use Rattle.tables.specs.declared.access.Context.{Context}
 use Rattle.tables.specs.declared.call.Mark.{Mark}
-use Rattle.tables.specs.declared.state.Queue.{Queue}
 use Rattle.tables.specs.Machine.{stretch, restretched}
 use Rattle.tables.specs.Access.{Accessed, perform}
-use Rattle.tables.specs.Row.{wanted}
-use Rattle.tables.specs.Tables.{row_of}
 use Rattle.tables.specs.Step.{is_weak}
 use Rattle.machine.specs.declared.desk.Desk.{Desk}
 use Rattle.machine.specs.declared.desk.Stretches.{Stretches}
 use Rattle.machine.specs.declared.desk.Reached.{Reached}
 use Rattle.machine.specs.declared.desk.Stepped.{Stepped}
-use Rattle.machine.specs.Desk.{with, desk_context, same, away, queue_for, base_for, reach, went, desk_step, Ready}
-
-pub reach_is : (w : ℕ) (l : Stretches) (d : Desk) (k : Mark) {s : Context} {want : Wanted} {a : Bool} {q : Queue} {base : ℕ}
-    → s ≡ desk_context d k → want ≡ wanted (row_of w s d.party.place) → a ≡ away want.whose (same l) → q ≡ queue_for a d → base ≡ base_for a l
-    → ◌≡◌ {A = Reached} (record { context = s; access = want.access; away = a; queue = q; base = base }) (reach w l d k)
-reach_is w l d k es ew ea eq eb = simp (eb, eq, ea, ew, es)
+use Rattle.machine.specs.Desk.{with, reach, went, desk_step, Ready}
 
 -- the reached queue's stretch lies within the items
 pub record Within (r : Reached) (lent : ℕ) : Type 0 where

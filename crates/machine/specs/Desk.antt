@@ -1,32 +1,34 @@
 -- A step as the code takes it: one party, its own queue, its source's queue and the items. proofs/ shows that it is the machine's.
-use Rattle.std.specs.Prelude.{ℕ, ◌+◌, ◌≤◌, ◌<◌, ◌^◌, Bool, false, not, List, [], ltb, leb, eqb, set}
-use Rattle.words.specs.Word.{pick, Pow, pow_below}
+use Rattle.std.specs.Prelude.{ℕ, zero, suc, ◌+◌, ◌≤◌, ◌<◌, ◌^◌, Bool, false, not, List, [], ltb, eqb, set, Option, None, Result, Ok, Err}
+use Rattle.words.specs.Word.{pick, Pow}
 use Rattle.tables.specs.declared.access.Context.{Context}
 use Rattle.tables.specs.declared.access.Next.{Next}
 use Rattle.tables.specs.declared.access.Whose.{Whose}
 use Rattle.tables.specs.declared.answer.Answer.{Answer}
 use Rattle.tables.specs.declared.answer.Effect.{Effect}
 use Rattle.tables.specs.declared.answer.Effects.{Effects}
+use Rattle.tables.specs.declared.answer.Refusal.{Refusal}
 use Rattle.tables.specs.declared.call.Act.{Act}
 use Rattle.tables.specs.declared.call.Call.{Call}
 use Rattle.tables.specs.declared.call.Mark.{Mark}
-use Rattle.tables.specs.declared.state.Kind.{Kind}
 use Rattle.tables.specs.declared.state.Machine.{Machine}
+use Rattle.tables.specs.declared.state.Party.{Party}
 use Rattle.tables.specs.declared.state.Queue.{Queue}
 use Rattle.tables.specs.declared.place.Place.{Place}
 use Rattle.tables.specs.Access.{Accessed, perform}
-use Rattle.tables.specs.Effect.{drops_of, effect_of}
+use Rattle.tables.specs.Effect.{effect_of}
 use Rattle.tables.specs.Machine.{stretch, restretched}
 use Rattle.tables.specs.Row.{Row}
-use Rattle.tables.specs.Tables.{row_of, has_place, start}
-use Rattle.tables.specs.Step.{andb, is_weak, noted, stops_at, until, begin_order, step_order, alone_order, Result, three_effects}
+use Rattle.tables.specs.Refusal.{refusal_of}
+use Rattle.tables.specs.Tables.{row_of, is_idle, call_source, start}
+use Rattle.tables.specs.Step.{is_weak, noted, stops_at, until, mark_refusal, AfterAct, three_effects}
 use Rattle.machine.specs.declared.desk.Desk.{Desk}
 use Rattle.machine.specs.declared.desk.Stretches.{Stretches}
 use Rattle.machine.specs.declared.desk.Reached.{Reached}
 use Rattle.machine.specs.declared.desk.Stepped.{Stepped}
 use Rattle.machine.specs.declared.desk.Turn.{Turn}
-use Rattle.machine.specs.declared.soundness.Survey.{Survey}
-use Rattle.machine.specs.Note.{note, last}
+use Rattle.machine.specs.declared.desk.TurnAt.{TurnAt}
+use Rattle.machine.specs.Note.{note, last, dropped_by}
 
 -- what a function returns, with the items that were lent to it
 pub record With (A : Type 0) : Type 0 where
@@ -68,10 +70,17 @@ base_for a l = pick a l.source l.own
 abbrev pub site_for : Bool → Stretches → ℕ
 site_for a l = pick a l.from l.who
 
+-- a party where a row's access has brought it, and one whose call has begun
+abbrev pub moved : Next → Party
+moved n = record { place = n.place; drain = n.drain }
+
+abbrev pub begun : Party → Queue → Call → Party
+begun p q c = record { place = start q.kind c; drain = p.drain }
+
 -- the desk with that queue and the party's next place
 abbrev pub desk_with : Bool → Desk → Queue → Next → Desk
 desk_with a d q n = record {
-  party = record { place = n.place; drain = n.drain };
+  party = moved n;
   own = pick a d.own q;
   source = pick a q d.source;
 }
@@ -110,7 +119,7 @@ desk_step w l d xs k =
 pub record Ran : Type 0 where
   pub desk : Desk
   pub items : List ℕ
-  pub answer : Answer
+  pub answer : Option Answer
   pub effects : List Effect
   pub steps : ℕ
 
@@ -131,52 +140,58 @@ desk_runs w l budget r = until ran_stops (λ x. ran_on x (desk_step w l x.desk x
 
 -- a run alone that has not begun
 abbrev pub ran_none : Desk → List ℕ → Ran
-ran_none d xs = record { desk = d; items = xs; answer = Answer.Pending; effects = []; steps = 0 }
+ran_none d xs = record { desk = d; items = xs; answer = None; effects = []; steps = 0 }
 
 -- ---- an act on the desk
 
-abbrev pub turn_with : Desk → Answer → Effects → (steps refusal : ℕ) → Turn
-turn_with d a e n k = record { desk = d; reply = record { answer = a; effects = e; steps = n; refusal = k } }
+abbrev pub turn_with : Desk → Option Answer → Effects → (steps : ℕ) → Turn
+turn_with d a e n = record { desk = d; reply = record { answer = a; effects = e; steps = n } }
 
 -- what a run has come to, and one step more, its effects in an array of three
 abbrev pub of_ran : Ran → With Turn
-of_ran r = with (turn_with r.desk r.answer (three_effects r.effects) r.steps 0) r.items
+of_ran r = with (turn_with r.desk r.answer (three_effects r.effects) r.steps) r.items
 
 abbrev pub turn_on : Turn → With Stepped → With Turn
-turn_on t o =
-    with (turn_with o.value.desk o.value.answer (note t.reply.effects o.value.effect) (t.reply.steps + 1) 0) o.items
+turn_on t o = with (turn_with o.value.desk o.value.answer (note t.reply.effects o.value.effect) (t.reply.steps + 1)) o.items
 
 abbrev pub of_stepped : With Stepped → With Turn
-of_stepped o = with (turn_with o.value.desk o.value.answer (three_effects (noted [] o.value.effect)) 0 0) o.items
+of_stepped o = with (turn_with o.value.desk o.value.answer (three_effects (noted [] o.value.effect)) 0) o.items
 
-abbrev pub as_came : Desk → ℕ → Turn
-as_came d k = turn_with d Answer.Pending (three_effects []) 0 k
+abbrev pub as_came : Desk → Turn
+as_came d = turn_with d None (three_effects []) 0
 
 abbrev pub begun_desk : Desk → Call → Desk
 begun_desk d c = record {
-  party = record { place = start d.own.kind c; drain = d.party.drain };
+  party = begun d.party d.own c;
   own = d.own;
   source = d.source;
 }
 
--- taken where the refusal is 0, else everything as it came
-abbrev pub taking : ℕ → With Turn → Desk → List ℕ → With Turn
-taking code t d xs = pick (eqb code 0) t (with (as_came d code) xs)
+-- of a party that is there: refusals 3 and 5, and 4
+abbrev pub start_refusal : (parties who : ℕ) → Place → Call → ℕ
+start_refusal n who p c = pick (is_idle p) (pick (ltb (call_source who c) n) 0 5) 3
 
-abbrev pub begin_turn : Bool → (parties : ℕ) → Stretches → Desk → List ℕ → Call → With Turn
-begin_turn ok n l d xs c = taking (begin_order ok n l.who d.party.place c) (with (as_came (begun_desk d c) 0) xs) d xs
+abbrev pub run_refusal : Place → ℕ
+run_refusal p = pick (is_idle p) 4 0
 
-abbrev pub step_turn : ℕ → Bool → (parties : ℕ) → Stretches → Desk → List ℕ → Mark → With Turn
-step_turn w ok n l d xs k =
-    taking (step_order ok n l.who (desk_row w d k).access k d.party.place) (of_stepped (desk_step w l d xs k)) d xs
+-- taken where the refusal is 0, else refused, and the items as they came
+abbrev pub taking : (code : ℕ) → With Turn → List ℕ → With (Result Turn Refusal)
+taking zero t xs = with (Ok t.value) t.items
+taking (suc k) t xs = with (Err (refusal_of (suc k))) xs
 
-abbrev pub alone_turn : ℕ → Bool → (parties : ℕ) → Stretches → Desk → List ℕ → (budget : ℕ) → With Turn
-alone_turn w ok n l d xs b = taking (alone_order ok n l.who d.party.place) (of_ran (desk_runs w l b (ran_none d xs))) d xs
+abbrev pub begin_turn : (parties : ℕ) → Stretches → Desk → List ℕ → Call → With (Result Turn Refusal)
+begin_turn n l d xs c = taking (start_refusal n l.who d.party.place c) (with (as_came (begun_desk d c)) xs) xs
 
-abbrev pub turned : ℕ → Bool → (parties : ℕ) → Stretches → Desk → List ℕ → Act → With Turn
-turned w ok n l d xs (Act.Begin c) = begin_turn ok n l d xs c
-turned w ok n l d xs (Act.Step k) = step_turn w ok n l d xs k
-turned w ok n l d xs (Act.Alone b) = alone_turn w ok n l d xs b
+abbrev pub step_turn : ℕ → Stretches → Desk → List ℕ → Mark → With (Result Turn Refusal)
+step_turn w l d xs k = taking (mark_refusal (desk_row w d k).access k d.party.place) (of_stepped (desk_step w l d xs k)) xs
+
+abbrev pub alone_turn : ℕ → Stretches → Desk → List ℕ → (budget : ℕ) → With (Result Turn Refusal)
+alone_turn w l d xs b = taking (run_refusal d.party.place) (of_ran (desk_runs w l b (ran_none d xs))) xs
+
+abbrev pub turned : ℕ → (parties : ℕ) → Stretches → Desk → List ℕ → Act → With (Result Turn Refusal)
+turned w n l d xs (Act.Begin c) = begin_turn n l d xs c
+turned w n l d xs (Act.Step k) = step_turn w l d xs k
+turned w n l d xs (Act.Alone b) = alone_turn w l d xs b
 
 -- what the desk's code asks for: both stretches lie within the items, and capacities are powers of two
 pub record Ready (l : Stretches) (d : Desk) (lent : ℕ) : Type 0 where
@@ -187,7 +202,7 @@ pub record Ready (l : Stretches) (d : Desk) (lent : ℕ) : Type 0 where
 
 -- a count of dropped ones can grow by one
 abbrev pub Roomy : Effects → Type 0
-Roomy l = drops_of (last l).change + 1 < 2 ^ 64
+Roomy l = dropped_by (last l) + 1 < 2 ^ 64
 
 -- ---- the desk put back into the record
 
@@ -198,22 +213,11 @@ put_back m who f d = record {
   queue = set (set m.queue f d.source) who d.own;
 }
 
-abbrev pub put_result : Machine → (x y : ℕ) → With Turn → Result
-put_result m x y t = record { machine = put_back m x y t.value.desk; items = t.items; reply = t.value.reply }
+-- what an act leaves, x and y being its party's place of the table and its source's: refused, the record as it came
+abbrev pub left_at : Machine → (x y : ℕ) → Result Turn Refusal → List ℕ → AfterAct
+left_at m x y (Ok t) xs = record { machine = put_back m x y t.desk; items = xs; reply = Ok t.reply }
+left_at m x y (Err e) xs = record { machine = m; items = xs; reply = Err e }
 
--- ---- the record test, party by party
-
--- one party and its queue; `source` is the place's, and `from` its queue's kind
-abbrev pub fine : ℕ → (parties source : ℕ) → (from : Kind) → Place → Queue → Bool
-fine w n source from p q = andb (pow_below w q.capacity) (andb (ltb source n) (has_place q.kind from p))
-
-abbrev pub surveyed : (who f i : ℕ) → Survey → (good : Bool) → Queue → Survey
-surveyed who f i s good q = record {
-  sound = andb s.sound good;
-  total = s.total + q.capacity;
-  own = pick (eqb i who) s.total s.own;
-  source = pick (eqb i f) s.total s.source;
-}
-
-abbrev pub passed : (most parties lent : ℕ) → Survey → Bool
-passed most n lent s = andb (ltb 0 n) (andb (leb n most) (andb s.sound (leb s.total lent)))
+abbrev pub left_by : Machine → Result TurnAt Refusal → List ℕ → AfterAct
+left_by m (Ok t) xs = left_at m t.x t.y (Ok t.turn) xs
+left_by m (Err e) xs = record { machine = m; items = xs; reply = Err e }

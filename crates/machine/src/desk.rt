@@ -1,7 +1,12 @@
 // What a step sees of the machine: its party, its own queue and its source's. The whole machine is not handed from function to
 // function.
-use tables::access::{Access, Context};
+ghost use Rattle.std.specs.Prelude.{◌≡◌};
+ghost use Rattle.machine.specs.Desk as D;
+
+use queue::places;
+use tables::access::{Access, Context, Next, Whose};
 use tables::answer::{Answer, Effect, Reply};
+use tables::call::{Call, Mark};
 use tables::state::{Party, Queue};
 
 // Where the source is the own queue, `own` has its words.
@@ -36,13 +41,103 @@ pub struct Reached {
 #[derive(Clone, Copy)]
 pub struct Stepped {
     pub desk: Desk,
-    pub answer: Answer,
-    pub effect: Effect,
+    pub answer: Option<Answer>,
+    pub effect: Option<Effect>,
 }
 
-// What an act leaves on the desk, and what is said.
+// What an act that nothing refuses leaves on the desk, and what is said.
 #[derive(Clone, Copy)]
 pub struct Turn {
     pub desk: Desk,
     pub reply: Reply,
+}
+
+// A turn, and the places of the table that its desk goes back to: the party's and its queue's, and the source's.
+#[derive(Clone, Copy)]
+pub struct TurnAt {
+    pub x: usize,
+    pub y: usize,
+    pub turn: Turn,
+}
+
+// A party where a row's access has brought it.
+pub fn moved(next: Next) -> Party
+    ensures { result ≡ D.moved next }
+{
+    Party {
+        place: next.place,
+        drain: next.drain,
+    }
+}
+
+// A party whose call has begun: it keeps its drain.
+pub fn begun(party: Party, own: Queue, call: Call) -> Party
+    ensures { result ≡ D.begun party own call }
+{
+    Party {
+        place: places::start(own.kind, call),
+        ..party
+    }
+}
+
+impl Stretches {
+    // The source's queue is another one than the own.
+    pub fn is_away(self, whose: Whose) -> bool
+        ensures { result ≡ D.away whose (D.same self) }
+    {
+        whose == Whose::Source && self.from != self.who
+    }
+
+    pub fn base(self, away: bool) -> usize
+        ensures { result ≡ D.base_for away self }
+    {
+        if away { self.source } else { self.own }
+    }
+
+    // The number of the queue that a step reaches.
+    pub fn site(self, away: bool) -> u64
+        ensures { result ≡ D.site_for away self }
+    {
+        if away { self.from } else { self.who }
+    }
+}
+
+impl Desk {
+    pub fn context(self, mark: Mark) -> Context
+        ensures { result ≡ D.desk_context self mark }
+    {
+        Context {
+            kind: self.own.kind,
+            capacity: self.own.capacity,
+            from: self.source.kind,
+            drain: self.party.drain,
+            mark,
+        }
+    }
+
+    pub fn queue(self, away: bool) -> Queue
+        ensures { result ≡ D.queue_for away self }
+    {
+        if away { self.source } else { self.own }
+    }
+
+    // With the queue that a step reached and the party's next place.
+    pub fn with(self, away: bool, queue: Queue, next: Next) -> Desk
+        ensures { result ≡ D.desk_with away self queue next }
+    {
+        let party = moved(next);
+        if away {
+            Desk {
+                party,
+                source: queue,
+                ..self
+            }
+        } else {
+            Desk {
+                party,
+                own: queue,
+                ..self
+            }
+        }
+    }
 }

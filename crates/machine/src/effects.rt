@@ -11,66 +11,49 @@ fn named(party: u64, queue: u64, change: Change) -> Effect
     ensures { result ≡ record { party = party; queue = queue; change = change } }
 {
     Effect {
-        party: party,
-        queue: queue,
-        change: change,
+        party,
+        queue,
+        change,
     }
 }
 
-// An effect names its party and queue; landed names the source.
-pub fn effect_of(party: u64, queue: u64, source: u64, change: Change) -> Effect
+// An effect, if any, names its party and queue; landed names the source.
+pub fn effect_of(party: u64, queue: u64, source: u64, change: Option<Change>) -> Option<Effect>
     ensures { result ≡ Ef.effect_of party queue source change }
 {
-    let row = answer::change_row(change);
-    if row.number == 0 {
-        return named(0, 0, Change::None);
-    }
-    if row.lands {
-        named(party, source, change)
-    } else {
-        named(party, queue, change)
-    }
+    let change = change?;
+    let columns = answer::change_row(change);
+    let site = if columns.lands { source } else { queue };
+    Some(named(party, site, change))
 }
 
 pub fn no_effects() -> Effects
     ensures { result ≡ St.three_effects [] }
 {
-    let none = named(0, 0, Change::None);
     Effects {
         count: 0,
-        list: [none, none, none],
+        list: [None; 3],
     }
 }
 
 fn drops(e: Effect) -> u64
     ensures { result ≡ Ef.drops_of e.change }
 {
-    let change = e.change;
-    let row = answer::change_row(change);
-    row.drops
+    answer::change_row(e.change).drops
 }
 
 // Whether two effects in a row are dropped ones, which are counted as one.
 fn joins(last: Effect, e: Effect) -> bool
     ensures { result ≡ St.joins last e }
 {
-    if 0 < drops(last) { 0 < drops(e) } else { false }
+    0 < drops(last) && 0 < drops(e)
 }
 
 fn merged(last: Effect, e: Effect) -> Effect
     requires { Ef.drops_of last.change + Ef.drops_of e.change < 2 ^ 64 }
     ensures { result ≡ St.merged last e }
 {
-    let count = drops(last) + drops(e);
-    named(e.party, e.queue, Change::Dropped(count))
-}
-
-fn is_none(e: Effect) -> bool
-    ensures { result ≡ Ef.is_none e.change }
-{
-    let change = e.change;
-    let row = answer::change_row(change);
-    row.number == 0
+    named(e.party, e.queue, Change::Dropped(drops(last) + drops(e)))
 }
 
 fn with(l: Effects, i: usize, e: Effect, count: u32) -> Effects
@@ -78,21 +61,18 @@ fn with(l: Effects, i: usize, e: Effect, count: u32) -> Effects
     ensures { result ≡ Nt.with' l i e count }
 {
     let mut list = l.list;
-    list[i] = e;
-    Effects {
-        count: count,
-        list: list,
-    }
+    list[i] = Some(e);
+    Effects { count, list }
 }
 
 // The effects with one more. A fourth never comes: a call has three at most.
-pub fn note(l: Effects, e: Effect) -> Effects
+pub fn note(l: Effects, e: Option<Effect>) -> Effects
     requires { Nt.CountFits l e }
     ensures { result ≡ Nt.note l e }
 {
-    if is_none(e) {
+    let Some(e) = e else {
         return l;
-    }
+    };
     let n = l.count as usize;
     if n == 0 {
         return with(l, 0, e, 1);
@@ -100,11 +80,10 @@ pub fn note(l: Effects, e: Effect) -> Effects
     if 3 < n {
         return l;
     }
-    let at = n - 1;
-    let last = l.list[at];
-    if joins(last, e) {
-        let m = merged(last, e);
-        return with(l, at, m, l.count);
+    if let Some(last) = l.list[n - 1]
+        && joins(last, e)
+    {
+        return with(l, n - 1, merged(last, e), l.count);
     }
     if n == 3 {
         return l;

@@ -1,11 +1,12 @@
 // A fresh machine, or refusal 1, 7 or 8.
-ghost use Rattle.std.specs.Prelude.{◌≡◌, false, ◌-◌, ◌≤◌, ◌^◌, length};
+ghost use Rattle.std.specs.Prelude.{◌≡◌, false, ◌-◌, ◌≤◌, ◌^◌, length, nat_lt};
+ghost use Rattle.std.specs.List.{list_any};
 ghost use Rattle.words.specs.Edition.{width};
-ghost use Rattle.words.specs.Word.{orb};
 ghost use Rattle.tables.specs.Machine as M;
 ghost use Rattle.tables.specs.Machine.{most};
 ghost use Rattle.tables.specs.Step as St;
 
+use tables::answer::Refusal;
 use tables::place::Place;
 use tables::state::{Drain, Kind, MOST, Machine, Opened, Party, Queue};
 
@@ -25,7 +26,7 @@ fn blank(kind: Kind) -> Machine
         drain: Drain { at: 0, end: 0 },
     };
     let queue = Queue {
-        kind: kind,
+        kind,
         capacity: 0,
         pushes: 0,
         packed: 0,
@@ -38,25 +39,12 @@ fn blank(kind: Kind) -> Machine
     }
 }
 
-fn either(a: bool, b: bool) -> bool
-    ensures { result ≡ orb a b }
-{
-    if a { true } else { b }
-}
-
-// Whether one of the first n requests is above the largest capacity.
-fn over(requests: [u64; MOST], n: usize) -> bool
-    requires { n ≤ most }
-    ensures { result ≡ St.over_to width requests n }
+// Whether a request is above the largest capacity.
+fn over(requests: &[u64]) -> bool
+    ensures { result ≡ list_any (λ request. nat_lt (2 ^ (width - 1)) request) requests.now }
 {
     let largest = words::largest_capacity();
-    let mut found = false;
-    let mut i: usize = 0;
-    while i < n {
-        found = either(found, largest < requests[i]);
-        i += 1;
-    }
-    found
+    requests.iter().any(|&request| largest < request)
 }
 
 // LIFO: push count p, pop count 0, both heads p; FIFO: all p.
@@ -66,24 +54,20 @@ fn fresh(kind: Kind, request: u64, position: u32) -> Queue
 {
     let capacity = words::capacity(request);
     match kind {
-        Kind::Lifo => {
-            Queue {
-                kind: Kind::Lifo,
-                capacity: capacity,
-                pushes: position,
-                packed: words::pack(0, position),
-                completed: position,
-            }
-        }
-        Kind::Fifo => {
-            Queue {
-                kind: Kind::Fifo,
-                capacity: capacity,
-                pushes: position,
-                packed: words::pack(position, position),
-                completed: 0,
-            }
-        }
+        Kind::Lifo => Queue {
+            kind,
+            capacity,
+            pushes: position,
+            packed: words::pack(0, position),
+            completed: position,
+        },
+        Kind::Fifo => Queue {
+            kind,
+            capacity,
+            pushes: position,
+            packed: words::pack(position, position),
+            completed: 0,
+        },
     }
 }
 
@@ -101,20 +85,15 @@ fn fill(
     ensures machine_is { result.machine ≡ St.tables most n (St.open_queues width most (St.every_kind most kind) n requests positions) }
     ensures total_is { result.total ≡ M.base_of n (St.open_queues width most (St.every_kind most kind) n requests positions) }
 {
-    let mut out = machine;
+    let mut machine = machine;
     let mut total: u64 = 0;
-    let mut i: usize = 0;
-    while i < n {
-        let q = fresh(kind, requests[i], positions[i]);
-        total += q.capacity as u64;
-        out.queue[i] = q;
-        i += 1;
+    for i in 0..n {
+        let queue = fresh(kind, requests[i], positions[i]);
+        total += queue.capacity as u64;
+        machine.queue[i] = queue;
     }
-    out.parties = n as u32;
-    Filled {
-        machine: out,
-        total: total,
-    }
+    machine.parties = n as u32;
+    Filled { machine, total }
 }
 
 // Refusals 1, 7 and 8, in that order. Of the items only their number matters: opening writes none.
@@ -125,38 +104,31 @@ pub fn open(
     positions: [u32; MOST],
     items: &[u64],
 ) -> Opened
-    ensures { result ≡ St.opening width most (St.every_kind most kind) parties requests positions (length items.now) }
+    ensures { result ≡ St.opened_as (St.opening width most (St.every_kind most kind) parties requests positions (length items.now)) }
 {
     let closed = blank(kind);
-    if parties == 0 {
+    if parties == 0 || parties > MOST as u64 {
         return Opened {
             machine: closed,
-            refusal: 1,
-        };
-    }
-    if (MOST as u64) < parties {
-        return Opened {
-            machine: closed,
-            refusal: 1,
+            refusal: Some(Refusal::Record),
         };
     }
     let n = parties as usize;
-    if over(requests, n) {
+    if over(&requests[..n]) {
         return Opened {
             machine: closed,
-            refusal: 7,
+            refusal: Some(Refusal::Request),
         };
     }
-    let f = fill(closed, kind, requests, positions, n);
-    if (items.len() as u64) < f.total {
+    let filled = fill(closed, kind, requests, positions, n);
+    if (items.len() as u64) < filled.total {
         return Opened {
             machine: closed,
-            refusal: 8,
+            refusal: Some(Refusal::Items),
         };
     }
-    let machine = f.machine;
     Opened {
-        machine: machine,
-        refusal: 0,
+        machine: filled.machine,
+        refusal: None,
     }
 }

@@ -1,96 +1,49 @@
-// The record test: refusal 1, party by party, and where the stretches of the own queue and the source's start.
-ghost use Rattle.std.specs.Prelude.{◌≡◌, true, ◌+◌, ◌<◌, ◌^◌, leb, eqb};
+// The record test: refusal 1, party by party, and where each queue's stretch of the items starts.
+ghost use Rattle.std.specs.Prelude.{◌≡◌, ◌≤◌, ◌<◌, is_some, IfSome, length};
 ghost use Rattle.words.specs.Edition.{width};
-ghost use Rattle.words.specs.Word.{pick};
-ghost use Rattle.tables.specs.Machine.{most};
-ghost use Rattle.tables.specs.Step.{andb};
-ghost use Rattle.machine.specs.Desk as D;
+ghost use Rattle.tables.specs.Machine.{most, queue_at};
+ghost use Rattle.tables.specs.Step as St;
+ghost use Rattle.machine.specs.Look as L;
 
+use super::record::Record;
 use queue::places;
-use tables::place::Place;
-use tables::state::{Kind, MOST, Queue};
+use tables::state::{MOST, Queue};
 
-// What the test has found so far, the capacities so far, and where the two queues' stretches start.
-#[derive(Clone, Copy)]
-pub struct Survey {
-    pub sound: bool,
-    pub total: usize,
-    pub own: usize,
-    pub source: usize,
+// One party and its own queue, read before: a capacity, a source that is there, and a place that the two queues' tables have.
+fn fine<R: Record>(held: &R, parties: u32, i: usize, own: Queue) -> bool
+    requires few { (R.machine held.now).parties ≤ most }
+    requires there { i < most }
+    requires parties_is { parties ≡ (R.machine held.now).parties }
+    requires own_is { own ≡ queue_at (R.machine held.now) i }
+    ensures fine_is { result ≡ St.sound_at width (R.machine held.now) i }
+    ensures parties_many { length (R.machine held.now).party ≡ most }
+{
+    let place = held.party(i).place;
+    let source = places::source_of(i as u64, place);
+    words::is_capacity(own.capacity)
+        && source < parties as u64
+        && places::has_place(own.kind, held.queue(source as usize).kind, place)
 }
 
-pub fn nothing() -> Survey
-    ensures { result ≡ record { sound = true; total = 0; own = 0; source = 0 } }
+// The record test, and what it finds: where each queue's stretch starts, which is where the capacities before it end. No act changes a
+// capacity, so the starts hold for all the acts that follow.
+pub fn starts_of<R: Record>(held: &R, lent: usize) -> Option<[usize; MOST]>
+    ensures passes { is_some result ≡ St.sound width most (R.machine held.now) lent }
+    ensures fit { IfSome result (λ at. L.Fit (R.machine held.now) at lent) }
 {
-    Survey {
-        sound: true,
-        total: 0,
-        own: 0,
-        source: 0,
+    let parties = held.parties();
+    if parties == 0 || MOST < parties as usize {
+        return None;
     }
-}
-
-// How many parties there are to look at: none where their number is out of range, since the test fails then.
-pub fn bound(parties: u32) -> usize
-    ensures { result ≡ pick (leb parties most) parties 0 }
-{
-    let n = parties as usize;
-    if n <= MOST { n } else { 0 }
-}
-
-// One party and its queue: `source` is its place's, and `from` the kind of that queue.
-pub fn fine(parties: u32, source: u64, from: Kind, place: Place, queue: Queue) -> bool
-    ensures { result ≡ D.fine width parties source from place queue }
-{
-    if words::is_capacity(queue.capacity) {
-        if source < (parties as u64) {
-            let kind = queue.kind;
-            places::has_place(kind, from, place)
-        } else {
-            false
+    let mut at: [usize; MOST] = [0; MOST];
+    let mut total: usize = 0;
+    for i in 0..parties as usize {
+        let own = held.queue(i);
+        if !fine(held, parties, i, own) {
+            return None;
         }
-    } else {
-        false
+        at[i] = total;
+        total += own.capacity as usize;
     }
-}
-
-// A stretch starts where the capacities before it end.
-fn start(i: u64, wanted: u64, total: usize, old: usize) -> usize
-    ensures { result ≡ pick (eqb i wanted) total old }
-{
-    if i == wanted { total } else { old }
-}
-
-fn both(a: bool, b: bool) -> bool
-    ensures { result ≡ andb a b }
-{
-    if a { b } else { false }
-}
-
-pub fn surveyed(s: Survey, i: u64, good: bool, queue: Queue, who: u64, from: u64) -> Survey
-    requires { s.total < 2 ^ 63 }
-    ensures survey_is { result ≡ D.surveyed who from i s good queue }
-    ensures total_grows { result.total < s.total + 2 ^ width }
-{
-    Survey {
-        sound: both(s.sound, good),
-        total: s.total + queue.capacity as usize,
-        own: start(i, who, s.total, s.own),
-        source: start(i, from, s.total, s.source),
-    }
-}
-
-pub fn passed(s: Survey, parties: u32, lent: usize) -> bool
-    ensures { result ≡ D.passed most parties lent s }
-{
-    let n = parties as usize;
-    if 0 < n {
-        if n <= MOST {
-            both(s.sound, s.total <= lent)
-        } else {
-            false
-        }
-    } else {
-        false
-    }
+    if total <= lent { Some(at) } else { None }
 }

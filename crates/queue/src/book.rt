@@ -6,7 +6,6 @@ ghost use Rattle.tables.specs.Tables as T;
 
 use super::{fifo, lifo, row};
 use tables::access::{Access, Context, Next, Seen, Wanted};
-use tables::answer::Change;
 use tables::place::{BookPlace, BookingCall, Place};
 
 pub fn wants(call: BookingCall, place: BookPlace, s: Context) -> Wanted
@@ -14,16 +13,9 @@ pub fn wants(call: BookingCall, place: BookPlace, s: Context) -> Wanted
 {
     match place {
         BookPlace::LifoPacked => row::source(Access::LoadPacked),
-        BookPlace::LifoCompleted { packed: _ } => row::source(Access::LoadCompleted),
-        BookPlace::LifoPushes {
-            packed: _,
-            completed: _,
-        } => row::source(Access::LoadPushes),
-        BookPlace::LifoCas {
-            packed,
-            completed: _,
-            count,
-        } => {
+        BookPlace::LifoCompleted { .. } => row::source(Access::LoadCompleted),
+        BookPlace::LifoPushes { .. } => row::source(Access::LoadPushes),
+        BookPlace::LifoCas { packed, count, .. } => {
             let old = words::unpack(packed);
             row::source(Access::Cas {
                 old: packed,
@@ -31,7 +23,7 @@ pub fn wants(call: BookingCall, place: BookPlace, s: Context) -> Wanted
             })
         }
         BookPlace::FifoPacked => row::source(Access::LoadPacked),
-        BookPlace::FifoTail { packed: _ } => row::source(Access::LoadPushes),
+        BookPlace::FifoTail { .. } => row::source(Access::LoadPushes),
         BookPlace::FifoCas { packed, count } => {
             let old = words::unpack(packed);
             row::source(Access::Cas {
@@ -55,7 +47,7 @@ pub fn advance(call: BookingCall, place: BookPlace, s: Context, seen: Seen) -> N
                     packed: seen.packed,
                 },
             ),
-            Change::None,
+            None,
         ),
         BookPlace::LifoCompleted { packed } => lifo::completed_test(s, call, packed, seen.word),
         BookPlace::LifoPushes { packed, completed } => lifo::counted(

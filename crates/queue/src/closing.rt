@@ -15,7 +15,7 @@ pub fn first(kind: Kind, head: u32) -> ClosePlace
     ensures { result ≡ T.closing kind head }
 {
     match kind {
-        Kind::Lifo => ClosePlace::StoreCompleted { head: head },
+        Kind::Lifo => ClosePlace::StoreCompleted { head },
         Kind::Fifo => ClosePlace::LoadHeads,
     }
 }
@@ -24,15 +24,8 @@ fn answer_of(call: ClosingCall) -> Answer
     ensures { result ≡ T.answer_of call }
 {
     match call {
-        ClosingCall::Steal { source: _, count } => Answer::Stolen(count),
-        ClosingCall::Take {
-            source: _,
-            token,
-            count,
-        } => Answer::Taken {
-            token: token,
-            count: count,
-        },
+        ClosingCall::Steal { count, .. } => Answer::Stolen(count),
+        ClosingCall::Take { token, count, .. } => Answer::Taken { token, count },
         ClosingCall::Next(token) => Answer::Item(token),
         ClosingCall::Drop => Answer::Closed,
     }
@@ -42,7 +35,7 @@ fn was_closed(s: Context, call: ClosingCall, seen: Seen) -> Next
     ensures { result ≡ Ts.was_closed s call seen }
 {
     if seen.stored {
-        row::ends(s, answer_of(call), Change::Closed)
+        row::ends(s, answer_of(call), Some(Change::Closed))
     } else {
         row::on(
             s,
@@ -52,7 +45,7 @@ fn was_closed(s: Context, call: ClosingCall, seen: Seen) -> Next
                     packed: seen.packed,
                 },
             ),
-            Change::None,
+            None,
         )
     }
 }
@@ -78,7 +71,7 @@ pub fn advance(call: ClosingCall, place: ClosePlace, s: Context, seen: Seen) -> 
         ≡ (Ts.close_row width s call place).after seen }
 {
     match place {
-        ClosePlace::StoreCompleted { head: _ } => row::ends(s, answer_of(call), Change::Closed),
+        ClosePlace::StoreCompleted { .. } => row::ends(s, answer_of(call), Some(Change::Closed)),
         ClosePlace::LoadHeads => row::on(
             s,
             Place::Close(
@@ -87,8 +80,8 @@ pub fn advance(call: ClosingCall, place: ClosePlace, s: Context, seen: Seen) -> 
                     packed: seen.packed,
                 },
             ),
-            Change::None,
+            None,
         ),
-        ClosePlace::CasHeads { packed: _ } => was_closed(s, call, seen),
+        ClosePlace::CasHeads { .. } => was_closed(s, call, seen),
     }
 }

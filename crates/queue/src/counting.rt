@@ -1,7 +1,7 @@
 // How many to book, and what a booking comes to: shared by steal, take and drain, and by both kinds.
-ghost use Rattle.std.specs.Prelude.{◌≡◌};
+ghost use Rattle.std.specs.Prelude.{◌≡◌, eqb, None, Some};
 ghost use Rattle.words.specs.Edition.{width};
-ghost use Rattle.words.specs.Word.{least_of};
+ghost use Rattle.words.specs.Word.{least_of, pick};
 ghost use Rattle.tables.specs.Rule as R;
 ghost use Rattle.tables.specs.Table as T;
 
@@ -15,12 +15,7 @@ use tables::state::Drain;
 fn carried(mark: Mark) -> u64
     ensures { result ≡ R.carried mark }
 {
-    match mark {
-        Mark::Plain => 0,
-        Mark::Weak => 0,
-        Mark::Carry(n) => n,
-        Mark::End => 0,
-    }
+    if let Mark::Carry(n) = mark { n } else { 0 }
 }
 
 // What the rule asks for, of n seen.
@@ -58,19 +53,28 @@ fn limit_of(call: BookingCall) -> u32
     ensures { result ≡ T.limit_of width call }
 {
     match call {
-        BookingCall::Transfer(transfer, dest) => {
-            let which = transfer.transfer;
-            room_for(which, dest.room)
-        }
+        BookingCall::Transfer(transfer, dest) => room_for(transfer.transfer, dest.room),
         BookingCall::Drain(_) => words::largest(),
     }
 }
 
 // How many to book, of n seen.
-pub fn count_of(mark: Mark, call: BookingCall, n: u32) -> u32
+fn count_of(mark: Mark, call: BookingCall, n: u32) -> u32
     ensures { result ≡ least_of (R.ruled (T.rule_of call) mark n) (T.limit_of width call) n }
 {
     words::least(ruled(rule_of(call), mark, n), limit_of(call), n)
+}
+
+// How many to book, of n seen, if any: nothing may be there, be asked for or have room.
+pub fn some_of(mark: Mark, call: BookingCall, n: u32) -> Option<u32>
+    ensures { result ≡ pick (eqb n 0) None (pick (eqb (least_of (R.ruled (T.rule_of call) mark n) (T.limit_of width call) n) 0) None
+        (Some (least_of (R.ruled (T.rule_of call) mark n) (T.limit_of width call) n))) }
+{
+    if n == 0 {
+        return None;
+    }
+    let count = count_of(mark, call, n);
+    if count == 0 { None } else { Some(count) }
 }
 
 pub fn booked(s: Context, call: BookingCall, head: u32, count: u32) -> Next
@@ -78,35 +82,28 @@ pub fn booked(s: Context, call: BookingCall, head: u32, count: u32) -> Next
 {
     match call {
         BookingCall::Transfer(transfer, dest) => {
-            let which = transfer.transfer;
-            let tokens = BookedTokens {
+            let booked = BookedTokens {
                 source: transfer.source,
-                transfer: which,
+                transfer: transfer.transfer,
                 word: dest.word,
                 tail: dest.tail,
                 from: head,
-                count: count,
+                count,
             };
             row::on(
                 s,
-                Place::Move(MovePlace::ReadSlot {
-                    booked: tokens,
-                    moved: 0,
-                }),
-                Change::Booked(count),
+                Place::Move(MovePlace::ReadSlot { booked, moved: 0 }),
+                Some(Change::Booked(count)),
             )
         }
-        BookingCall::Drain(_) => {
-            let drain = Drain {
+        BookingCall::Drain(_) => Next {
+            place: Place::Idle,
+            drain: Drain {
                 at: head,
                 end: words::add(head, count),
-            };
-            Next {
-                place: Place::Idle,
-                drain: drain,
-                answer: Answer::Drain(count),
-                change: Change::Booked(count),
-            }
-        }
+            },
+            answer: Some(Answer::Drain(count)),
+            change: Some(Change::Booked(count)),
+        },
     }
 }

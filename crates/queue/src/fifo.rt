@@ -1,5 +1,5 @@
 // FIFO's tables: the loads of push, extend and spare; the destination loads of steal and take; pop; empty; booking.
-ghost use Rattle.std.specs.Prelude.{◌≡◌, ◌≤◌};
+ghost use Rattle.std.specs.Prelude.{◌≡◌};
 ghost use Rattle.words.specs.Edition.{width};
 ghost use Rattle.tables.specs.Row as Y;
 ghost use Rattle.tables.specs.Access as X;
@@ -29,20 +29,17 @@ pub fn wants(place: FifoPlace, s: Context) -> Wanted
 {
     match place {
         FifoPlace::LoadPacked(_) => row::own(Access::LoadPacked),
-        FifoPlace::LoadTail { call: _, packed: _ } => row::own(Access::LoadPushes),
+        FifoPlace::LoadTail { .. } => row::own(Access::LoadPushes),
         FifoPlace::DestTail(_) => row::own(Access::LoadPushes),
-        FifoPlace::DestPacked {
-            transfer: _,
-            tail: _,
-        } => row::own(Access::LoadPacked),
+        FifoPlace::DestPacked { .. } => row::own(Access::LoadPacked),
         FifoPlace::PopPacked => row::own(Access::LoadPacked),
-        FifoPlace::PopTail { packed: _ } => row::own(Access::LoadPushes),
+        FifoPlace::PopTail { .. } => row::own(Access::LoadPushes),
         FifoPlace::PopCas { packed } => row::own(Access::Cas {
             old: packed,
             new: popped_heads(packed),
         }),
         FifoPlace::EmptyPacked => row::own(Access::LoadPacked),
-        FifoPlace::EmptyTail { packed: _ } => row::own(Access::LoadPushes),
+        FifoPlace::EmptyTail { .. } => row::own(Access::LoadPushes),
     }
 }
 
@@ -52,13 +49,9 @@ fn pop_test(s: Context, packed: u64, tail: u32) -> Next
 {
     let old = words::unpack(packed);
     if tail == old.high {
-        row::ends(s, Answer::None, Change::None)
+        row::ends(s, Answer::None, None)
     } else {
-        row::on(
-            s,
-            Place::Fifo(FifoPlace::PopCas { packed: packed }),
-            Change::None,
-        )
+        row::on(s, Place::Fifo(FifoPlace::PopCas { packed }), None)
     }
 }
 
@@ -69,14 +62,18 @@ fn popped(s: Context, packed: u64, seen: Seen) -> Next
     if seen.stored {
         let old = words::unpack(packed);
         let at = Position(old.high);
-        row::on(s, Place::Own(OwnPlace::PopRead { at: at }), Change::Popped)
+        row::on(
+            s,
+            Place::Own(OwnPlace::PopRead { at }),
+            Some(Change::Popped),
+        )
     } else {
         row::on(
             s,
             Place::Fifo(FifoPlace::PopTail {
                 packed: seen.packed,
             }),
-            Change::None,
+            None,
         )
     }
 }
@@ -85,15 +82,10 @@ fn is_empty(s: Context, packed: u64, tail: u32) -> Next
     ensures { result ≡ T.fifo_empty width s packed tail }
 {
     let old = words::unpack(packed);
-    if tail == old.high {
-        row::ends(s, Answer::Yes, Change::None)
-    } else {
-        row::ends(s, Answer::No, Change::None)
-    }
+    row::ends(s, own::yes_or_no(tail == old.high), None)
 }
 
 pub fn advance(place: FifoPlace, s: Context, seen: Seen) -> Next
-    requires { 1 ≤ s.capacity }
     ensures { result ≡ (T.fifo_row width s place).after seen }
 {
     match place {
@@ -101,10 +93,10 @@ pub fn advance(place: FifoPlace, s: Context, seen: Seen) -> Next
             row::on(
                 s,
                 Place::Fifo(FifoPlace::LoadTail {
-                    call: call,
+                    call,
                     packed: seen.packed,
                 }),
-                Change::None,
+                None,
             )
         }
         FifoPlace::LoadTail { call, packed } => {
@@ -115,10 +107,10 @@ pub fn advance(place: FifoPlace, s: Context, seen: Seen) -> Next
             row::on(
                 s,
                 Place::Fifo(FifoPlace::DestPacked {
-                    transfer: transfer,
+                    transfer,
                     tail: seen.word,
                 }),
-                Change::None,
+                None,
             )
         }
         FifoPlace::DestPacked { transfer, tail } => {
@@ -130,7 +122,7 @@ pub fn advance(place: FifoPlace, s: Context, seen: Seen) -> Next
             Place::Fifo(FifoPlace::PopTail {
                 packed: seen.packed,
             }),
-            Change::None,
+            None,
         ),
         FifoPlace::PopTail { packed } => pop_test(s, packed, seen.word),
         FifoPlace::PopCas { packed } => popped(s, packed, seen),
@@ -139,7 +131,7 @@ pub fn advance(place: FifoPlace, s: Context, seen: Seen) -> Next
             Place::Fifo(FifoPlace::EmptyTail {
                 packed: seen.packed,
             }),
-            Change::None,
+            None,
         ),
         FifoPlace::EmptyTail { packed } => is_empty(s, packed, seen.word),
     }
@@ -151,13 +143,9 @@ pub fn heads_test(s: Context, call: BookingCall, packed: u64) -> Next
 {
     let old = words::unpack(packed);
     if old.high == old.low {
-        row::on(
-            s,
-            Place::Book(call, BookPlace::FifoTail { packed: packed }),
-            Change::None,
-        )
+        row::on(s, Place::Book(call, BookPlace::FifoTail { packed }), None)
     } else {
-        row::ends(s, Answer::Busy, Change::None)
+        row::ends(s, Answer::Busy, None)
     }
 }
 
@@ -167,24 +155,13 @@ pub fn counted(s: Context, call: BookingCall, packed: u64, tail: u32) -> Next
 {
     let old = words::unpack(packed);
     let n = words::sub(tail, old.high);
-    if n == 0 {
-        return row::ends(s, Answer::Empty, Change::None);
-    }
-    let mark = s.mark;
-    let k = counting::count_of(mark, call, n);
-    if k == 0 {
-        return row::ends(s, Answer::Empty, Change::None);
-    }
+    let Some(count) = counting::some_of(s.mark, call, n) else {
+        return row::ends(s, Answer::Empty, None);
+    };
     row::on(
         s,
-        Place::Book(
-            call,
-            BookPlace::FifoCas {
-                packed: packed,
-                count: k,
-            },
-        ),
-        Change::None,
+        Place::Book(call, BookPlace::FifoCas { packed, count }),
+        None,
     )
 }
 

@@ -2,13 +2,12 @@
 // lifo.rt and fifo.rt stand beside st3's lifo.rs and fifo.rs; what both kinds share has modules of its own.
 #![tactic(auto)]
 
-ghost use Rattle.std.specs.Prelude.{◌≡◌, ◌≤◌};
+ghost use Rattle.std.specs.Prelude.{◌≡◌};
 ghost use Rattle.words.specs.Edition.{width};
 ghost use Rattle.tables.specs.Row as Y;
 ghost use Rattle.tables.specs.Tables as T;
 
 use tables::access::{Access, Context, Next, Seen, Wanted};
-use tables::answer::{Answer, Change};
 use tables::place::Place;
 
 pub mod memory; // one access to one queue's words and slots
@@ -37,11 +36,10 @@ pub fn wants(place: Place, s: Context) -> Wanted
 }
 
 pub fn advance(place: Place, s: Context, seen: Seen) -> Next
-    requires { 1 ≤ s.capacity }
     ensures { result ≡ (T.row_of width s place).after seen }
 {
     match place {
-        Place::Idle => row::ends(s, Answer::Pending, Change::None),
+        Place::Idle => row::on(s, Place::Idle, None),
         Place::Lifo(p) => lifo::advance(p, s, seen),
         Place::Fifo(p) => fifo::advance(p, s, seen),
         Place::Own(p) => own::advance(p, s, seen),

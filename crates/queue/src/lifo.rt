@@ -1,5 +1,5 @@
 // LIFO's tables: the loads that push, extend, spare, steal and take begin with; pop; empty; booking.
-ghost use Rattle.std.specs.Prelude.{◌≡◌, ◌≤◌};
+ghost use Rattle.std.specs.Prelude.{◌≡◌};
 ghost use Rattle.words.specs.Edition.{width};
 ghost use Rattle.tables.specs.Row as Y;
 ghost use Rattle.tables.specs.Access as X;
@@ -16,15 +16,11 @@ pub fn wants(place: LifoPlace, s: Context) -> Wanted
 {
     match place {
         LifoPlace::LoadPushes(_) => row::own(Access::LoadPushes),
-        LifoPlace::LoadPacked { call: _, pushes: _ } => row::own(Access::LoadPacked),
-        LifoPlace::LoadCompleted {
-            call: _,
-            pushes: _,
-            packed: _,
-        } => row::own(Access::LoadCompleted),
+        LifoPlace::LoadPacked { .. } => row::own(Access::LoadPacked),
+        LifoPlace::LoadCompleted { .. } => row::own(Access::LoadCompleted),
         LifoPlace::PopPacked => row::own(Access::LoadPacked),
-        LifoPlace::PopPushes { packed: _ } => row::own(Access::LoadPushes),
-        LifoPlace::PopCas { packed, tail: _ } => {
+        LifoPlace::PopPushes { .. } => row::own(Access::LoadPushes),
+        LifoPlace::PopCas { packed, .. } => {
             let old = words::unpack(packed);
             row::own(Access::Cas {
                 old: packed,
@@ -32,13 +28,12 @@ pub fn wants(place: LifoPlace, s: Context) -> Wanted
             })
         }
         LifoPlace::EmptyPushes => row::own(Access::LoadPushes),
-        LifoPlace::EmptyPacked { pushes: _ } => row::own(Access::LoadPacked),
+        LifoPlace::EmptyPacked { .. } => row::own(Access::LoadPacked),
     }
 }
 
 // The words are loaded: tail = push count - pop count.
 fn loaded(s: Context, call: RoomCall, pushes: u32, packed: u64, head: u32) -> Next
-    requires { 1 ≤ s.capacity }
     ensures { result ≡ T.lifo_loaded width s call pushes packed head }
 {
     let old = words::unpack(packed);
@@ -55,16 +50,9 @@ fn pop_test(s: Context, packed: u64, tail: u32) -> Next
 {
     let old = words::unpack(packed);
     if tail == old.low {
-        row::ends(s, Answer::None, Change::None)
+        row::ends(s, Answer::None, None)
     } else {
-        row::on(
-            s,
-            Place::Lifo(LifoPlace::PopCas {
-                packed: packed,
-                tail: tail,
-            }),
-            Change::None,
-        )
+        row::on(s, Place::Lifo(LifoPlace::PopCas { packed, tail }), None)
     }
 }
 
@@ -74,7 +62,11 @@ fn popped(s: Context, tail: u32, seen: Seen) -> Next
 {
     if seen.stored {
         let at = Position(words::sub(tail, 1));
-        row::on(s, Place::Own(OwnPlace::PopRead { at: at }), Change::Popped)
+        row::on(
+            s,
+            Place::Own(OwnPlace::PopRead { at }),
+            Some(Change::Popped),
+        )
     } else {
         pop_test(s, seen.packed, tail)
     }
@@ -85,11 +77,7 @@ fn is_empty(s: Context, pushes: u32, packed: u64) -> Next
 {
     let old = words::unpack(packed);
     let tail = words::sub(pushes, old.high);
-    if tail == old.low {
-        row::ends(s, Answer::Yes, Change::None)
-    } else {
-        row::ends(s, Answer::No, Change::None)
-    }
+    row::ends(s, own::yes_or_no(tail == old.low), None)
 }
 
 fn counted_pop(s: Context, packed: u64, pushes: u32) -> Next
@@ -100,7 +88,6 @@ fn counted_pop(s: Context, packed: u64, pushes: u32) -> Next
 }
 
 pub fn advance(place: LifoPlace, s: Context, seen: Seen) -> Next
-    requires { 1 ≤ s.capacity }
     ensures { result ≡ (T.lifo_row width s place).after seen }
 {
     match place {
@@ -108,21 +95,21 @@ pub fn advance(place: LifoPlace, s: Context, seen: Seen) -> Next
             row::on(
                 s,
                 Place::Lifo(LifoPlace::LoadPacked {
-                    call: call,
+                    call,
                     pushes: seen.word,
                 }),
-                Change::None,
+                None,
             )
         }
         LifoPlace::LoadPacked { call, pushes } => {
             row::on(
                 s,
                 Place::Lifo(LifoPlace::LoadCompleted {
-                    call: call,
-                    pushes: pushes,
+                    call,
+                    pushes,
                     packed: seen.packed,
                 }),
-                Change::None,
+                None,
             )
         }
         LifoPlace::LoadCompleted {
@@ -135,14 +122,14 @@ pub fn advance(place: LifoPlace, s: Context, seen: Seen) -> Next
             Place::Lifo(LifoPlace::PopPushes {
                 packed: seen.packed,
             }),
-            Change::None,
+            None,
         ),
         LifoPlace::PopPushes { packed } => counted_pop(s, packed, seen.word),
-        LifoPlace::PopCas { packed: _, tail } => popped(s, tail, seen),
+        LifoPlace::PopCas { tail, .. } => popped(s, tail, seen),
         LifoPlace::EmptyPushes => row::on(
             s,
             Place::Lifo(LifoPlace::EmptyPacked { pushes: seen.word }),
-            Change::None,
+            None,
         ),
         LifoPlace::EmptyPacked { pushes } => is_empty(s, pushes, seen.packed),
     }
@@ -156,17 +143,11 @@ pub fn completed_test(s: Context, call: BookingCall, packed: u64, completed: u32
     if completed == old.low {
         row::on(
             s,
-            Place::Book(
-                call,
-                BookPlace::LifoPushes {
-                    packed: packed,
-                    completed: completed,
-                },
-            ),
-            Change::None,
+            Place::Book(call, BookPlace::LifoPushes { packed, completed }),
+            None,
         )
     } else {
-        row::ends(s, Answer::Busy, Change::None)
+        row::ends(s, Answer::Busy, None)
     }
 }
 
@@ -176,25 +157,20 @@ pub fn counted(s: Context, call: BookingCall, packed: u64, completed: u32, pushe
 {
     let old = words::unpack(packed);
     let n = words::sub(words::sub(pushes, old.high), old.low);
-    if n == 0 {
-        return row::ends(s, Answer::Empty, Change::None);
-    }
-    let mark = s.mark;
-    let k = counting::count_of(mark, call, n);
-    if k == 0 {
-        return row::ends(s, Answer::Empty, Change::None);
-    }
+    let Some(count) = counting::some_of(s.mark, call, n) else {
+        return row::ends(s, Answer::Empty, None);
+    };
     row::on(
         s,
         Place::Book(
             call,
             BookPlace::LifoCas {
-                packed: packed,
-                completed: completed,
-                count: k,
+                packed,
+                completed,
+                count,
             },
         ),
-        Change::None,
+        None,
     )
 }
 

@@ -15,28 +15,19 @@ use words::Position;
 fn last_read(booked: BookedTokens, moved: u32) -> bool
     ensures { result ≡ T.last_read width booked.transfer booked moved }
 {
-    let which = booked.transfer;
-    match which {
-        Transfer::Steal => false,
-        Transfer::Take => words::add(moved, 1) == booked.count,
-    }
+    booked.transfer == Transfer::Take && words::add(moved, 1) == booked.count
 }
 
 fn last_written(booked: BookedTokens, moved: u32) -> bool
     ensures { result ≡ T.last_written width booked.transfer booked moved }
 {
-    let which = booked.transfer;
-    match which {
-        Transfer::Steal => words::add(moved, 1) == booked.count,
-        Transfer::Take => false,
-    }
+    booked.transfer == Transfer::Steal && words::add(moved, 1) == booked.count
 }
 
 fn landing(booked: BookedTokens) -> u32
     ensures { result ≡ T.landing width booked.transfer booked }
 {
-    let which = booked.transfer;
-    match which {
+    match booked.transfer {
         Transfer::Steal => booked.count,
         Transfer::Take => words::sub(booked.count, 1),
     }
@@ -45,75 +36,57 @@ fn landing(booked: BookedTokens) -> u32
 fn was_read(s: Context, booked: BookedTokens, moved: u32, token: u64) -> Next
     ensures { result ≡ T.was_read width s booked moved token }
 {
-    if last_read(booked, moved) {
-        row::on(
-            s,
-            Place::Move(MovePlace::Land {
-                booked: booked,
-                last: token,
-            }),
-            Change::None,
-        )
+    let next = if last_read(booked, moved) {
+        MovePlace::Land {
+            booked,
+            last: token,
+        }
     } else {
-        row::on(
-            s,
-            Place::Move(MovePlace::WriteSlot {
-                booked: booked,
-                moved: moved,
-                token: token,
-            }),
-            Change::None,
-        )
-    }
+        MovePlace::WriteSlot {
+            booked,
+            moved,
+            token,
+        }
+    };
+    row::on(s, Place::Move(next), None)
 }
 
 fn was_written(s: Context, booked: BookedTokens, moved: u32) -> Next
     ensures { result ≡ T.was_written width s booked moved }
 {
-    if last_written(booked, moved) {
-        row::on(
-            s,
-            Place::Move(MovePlace::Land {
-                booked: booked,
-                last: 0,
-            }),
-            Change::None,
-        )
+    let next = if last_written(booked, moved) {
+        MovePlace::Land { booked, last: 0 }
     } else {
-        let next = words::add(moved, 1);
-        row::on(
-            s,
-            Place::Move(MovePlace::ReadSlot {
-                booked: booked,
-                moved: next,
-            }),
-            Change::None,
-        )
-    }
+        MovePlace::ReadSlot {
+            booked,
+            moved: words::add(moved, 1),
+        }
+    };
+    row::on(s, Place::Move(next), None)
 }
 
 fn landed(s: Context, booked: BookedTokens, last: u64) -> Next
     ensures { result ≡ (T.move_row width s (MovePlace.Land booked last)).after X.nothing_seen }
 {
-    let from = s.from;
-    let close = closing::first(from, words::add(booked.from, booked.count));
-    let which = booked.transfer;
-    match which {
+    let source = booked.source;
+    let close = closing::first(s.from, words::add(booked.from, booked.count));
+    let count = landing(booked);
+    match booked.transfer {
         Transfer::Steal => {
-            let call = ClosingCall::Steal {
-                source: booked.source,
-                count: booked.count,
-            };
-            row::on(s, Place::Close(call, close), Change::Landed(booked.count))
+            let call = ClosingCall::Steal { source, count };
+            row::on(s, Place::Close(call, close), Some(Change::Landed(count)))
         }
         Transfer::Take => {
-            let moved = words::sub(booked.count, 1);
             let call = ClosingCall::Take {
-                source: booked.source,
+                source,
                 token: last,
-                count: moved,
+                count,
             };
-            row::on(s, Place::Close(call, close), Change::TakeLanded(moved))
+            row::on(
+                s,
+                Place::Close(call, close),
+                Some(Change::TakeLanded(count)),
+            )
         }
     }
 }
@@ -122,19 +95,17 @@ pub fn wants(place: MovePlace, s: Context) -> Wanted
     ensures { result ≡ Y.wanted (T.move_row width s place) }
 {
     match place {
-        MovePlace::ReadSlot { booked, moved } => row::source(Access::Read(Position(words::add(
-            booked.from,
-            moved,
-        )))),
+        MovePlace::ReadSlot { booked, moved } => {
+            row::source(Access::Read(Position(words::add(booked.from, moved))))
+        }
         MovePlace::WriteSlot {
             booked,
             moved,
             token,
-        } => { row::own(Access::Write(Position(words::add(booked.tail, moved)), token)) }
-        MovePlace::Land { booked, last: _ } => row::own(Access::StorePushes(words::add(
-            booked.word,
-            landing(booked),
-        ))),
+        } => row::own(Access::Write(Position(words::add(booked.tail, moved)), token)),
+        MovePlace::Land { booked, .. } => {
+            row::own(Access::StorePushes(words::add(booked.word, landing(booked))))
+        }
     }
 }
 
@@ -143,11 +114,7 @@ pub fn advance(place: MovePlace, s: Context, seen: Seen) -> Next
 {
     match place {
         MovePlace::ReadSlot { booked, moved } => was_read(s, booked, moved, seen.token),
-        MovePlace::WriteSlot {
-            booked,
-            moved,
-            token: _,
-        } => was_written(s, booked, moved),
+        MovePlace::WriteSlot { booked, moved, .. } => was_written(s, booked, moved),
         MovePlace::Land { booked, last } => landed(s, booked, last),
     }
 }

@@ -1,6 +1,7 @@
 // What both kinds do on the own queue once its words are loaded: push, extend, spare, a steal's room; the popped token; the drain.
-ghost use Rattle.std.specs.Prelude.{◌≡◌, ◌≤◌};
+ghost use Rattle.std.specs.Prelude.{◌≡◌};
 ghost use Rattle.words.specs.Edition.{width};
+ghost use Rattle.words.specs.Word.{pick};
 ghost use Rattle.tables.specs.Row as Y;
 ghost use Rattle.tables.specs.Table as T;
 
@@ -20,44 +21,38 @@ fn extending(pops: u32, tail: u32, limit: u32, written: u32) -> OwnPlace
 {
     if tail == limit {
         OwnPlace::ExtendStore {
-            pops: pops,
-            tail: tail,
-            written: written,
+            pops,
+            tail,
+            written,
         }
     } else {
         OwnPlace::ExtendMore {
-            pops: pops,
-            tail: tail,
-            limit: limit,
-            written: written,
+            pops,
+            tail,
+            limit,
+            written,
         }
     }
 }
 
 // Check that the buffer is not full.
 fn push_room(s: Context, token: u64, word: u32, tail: u32, head: u32) -> Next
-    requires { 1 ≤ s.capacity }
     ensures { result ≡ T.filled width s (OwnerCall.Push token) word 0 tail head }
 {
-    let mask = s.capacity - 1;
+    let mask = s.capacity.saturating_sub(1);
     if mask < words::sub(tail, head) {
-        row::ends(s, Answer::Full(token), Change::None)
+        row::ends(s, Answer::Full(token), None)
     } else {
         row::on(
             s,
-            Place::Own(OwnPlace::PushWrite {
-                token: token,
-                word: word,
-                tail: tail,
-            }),
-            Change::None,
+            Place::Own(OwnPlace::PushWrite { token, word, tail }),
+            None,
         )
     }
 }
 
 // The words are loaded for a push, an extend or a spare.
 pub fn filled(s: Context, call: OwnerCall, word: u32, pops: u32, tail: u32, head: u32) -> Next
-    requires { 1 ≤ s.capacity }
     ensures { result ≡ T.filled width s call word pops tail head }
 {
     match call {
@@ -66,15 +61,22 @@ pub fn filled(s: Context, call: OwnerCall, word: u32, pops: u32, tail: u32, head
             row::on(
                 s,
                 Place::Own(extending(pops, tail, words::add(head, s.capacity), 0)),
-                Change::None,
+                None,
             )
         }
         OwnerCall::Spare => row::ends(
             s,
             Answer::Spare(words::sub(s.capacity, words::sub(tail, head))),
-            Change::None,
+            None,
         ),
     }
+}
+
+// What empty answers.
+pub fn yes_or_no(empty: bool) -> Answer
+    ensures { result ≡ pick empty Answer.Yes Answer.No }
+{
+    if empty { Answer::Yes } else { Answer::No }
 }
 
 pub fn booking(kind: Kind) -> BookPlace
@@ -91,22 +93,8 @@ pub fn brought(s: Context, transfer: TransferCall, word: u32, tail: u32, head: u
     ensures { result ≡ T.brought width s transfer word tail head }
 {
     let room = words::sub(s.capacity, words::sub(tail, head));
-    let from = s.from;
-    row::on(
-        s,
-        Place::Book(
-            BookingCall::Transfer(
-                transfer,
-                Destination {
-                    word: word,
-                    tail: tail,
-                    room: room,
-                },
-            ),
-            booking(from),
-        ),
-        Change::None,
-    )
+    let call = BookingCall::Transfer(transfer, Destination { word, tail, room });
+    row::on(s, Place::Book(call, booking(s.from)), None)
 }
 
 // With nothing open the drain touches nothing.
@@ -125,34 +113,17 @@ pub fn wants(place: OwnPlace, s: Context) -> Wanted
     ensures { result ≡ Y.wanted (T.own_row width s place) }
 {
     match place {
-        OwnPlace::PushWrite {
-            token,
-            word: _,
-            tail,
-        } => row::own(Access::Write(Position(tail), token)),
+        OwnPlace::PushWrite { token, tail, .. } => row::own(Access::Write(Position(tail), token)),
         OwnPlace::PushStore { word } => row::own(Access::StorePushes(words::add(word, 1))),
-        OwnPlace::ExtendMore {
-            pops: _,
-            tail,
-            limit: _,
-            written: _,
-        } => {
-            let mark = s.mark;
-            match mark {
-                Mark::Carry(token) => row::own(Access::Write(Position(tail), token)),
-                Mark::End => row::own(Access::Touch),
-                Mark::Plain => row::own(Access::Touch),
-                Mark::Weak => row::own(Access::Touch),
-            }
+        OwnPlace::ExtendMore { tail, .. } => match s.mark {
+            Mark::Carry(token) => row::own(Access::Write(Position(tail), token)),
+            _ => row::own(Access::Touch),
+        },
+        OwnPlace::ExtendStore { pops, tail, .. } => {
+            row::own(Access::StorePushes(words::add(tail, pops)))
         }
-        OwnPlace::ExtendStore {
-            pops,
-            tail,
-            written: _,
-        } => row::own(Access::StorePushes(words::add(tail, pops))),
         OwnPlace::PopRead { at } => row::own(Access::Read(at)),
-        OwnPlace::NextItem => drain_wants(s),
-        OwnPlace::DropItem => drain_wants(s),
+        OwnPlace::NextItem | OwnPlace::DropItem => drain_wants(s),
     }
 }
 
@@ -160,21 +131,16 @@ fn extended(s: Context, pops: u32, tail: u32, limit: u32, written: u32, seen: Se
     ensures { result
         ≡ (T.extend_row width s s.mark pops tail limit written).after seen }
 {
-    let mark = s.mark;
-    let store = OwnPlace::ExtendStore {
-        pops: pops,
-        tail: tail,
-        written: written,
-    };
-    match mark {
-        Mark::Carry(token) => {
-            let more = extending(pops, words::add(tail, 1), limit, words::add(written, 1));
-            row::on(s, Place::Own(more), Change::Offered(token))
-        }
-        Mark::End => row::on(s, Place::Own(store), Change::None),
-        Mark::Plain => row::on(s, Place::Own(store), Change::None),
-        Mark::Weak => row::on(s, Place::Own(store), Change::None),
+    if let Mark::Carry(token) = s.mark {
+        let more = extending(pops, words::add(tail, 1), limit, words::add(written, 1));
+        return row::on(s, Place::Own(more), Some(Change::Offered(token)));
     }
+    let store = OwnPlace::ExtendStore {
+        pops,
+        tail,
+        written,
+    };
+    row::on(s, Place::Own(store), None)
 }
 
 // We cannot rely on the caller to call next again after the last item: it closes before it answers.
@@ -183,22 +149,20 @@ fn drained(s: Context, token: u64) -> Next
 {
     let at = words::add(s.drain.at, 1);
     let end = s.drain.end;
-    let drain = Drain { at: at, end: end };
+    let drain = Drain { at, end };
     if at == end {
-        let kind = s.kind;
-        let place = Place::Close(ClosingCall::Next(token), closing::first(kind, end));
         Next {
-            place: place,
-            drain: drain,
-            answer: Answer::Pending,
-            change: Change::Drained,
+            place: Place::Close(ClosingCall::Next(token), closing::first(s.kind, end)),
+            drain,
+            answer: None,
+            change: Some(Change::Drained),
         }
     } else {
         Next {
             place: Place::Idle,
-            drain: drain,
-            answer: Answer::Item(token),
-            change: Change::Drained,
+            drain,
+            answer: Some(Answer::Item(token)),
+            change: Some(Change::Drained),
         }
     }
 }
@@ -208,23 +172,16 @@ fn dropping(s: Context) -> Next
 {
     let at = words::add(s.drain.at, 1);
     let end = s.drain.end;
-    let drain = Drain { at: at, end: end };
-    if at == end {
-        let kind = s.kind;
-        let place = Place::Close(ClosingCall::Drop, closing::first(kind, end));
-        Next {
-            place: place,
-            drain: drain,
-            answer: Answer::Pending,
-            change: Change::Dropped(1),
-        }
+    let place = if at == end {
+        Place::Close(ClosingCall::Drop, closing::first(s.kind, end))
     } else {
-        Next {
-            place: Place::Own(OwnPlace::DropItem),
-            drain: drain,
-            answer: Answer::Pending,
-            change: Change::Dropped(1),
-        }
+        Place::Own(OwnPlace::DropItem)
+    };
+    Next {
+        place,
+        drain: Drain { at, end },
+        answer: None,
+        change: Some(Change::Dropped(1)),
     }
 }
 
@@ -232,7 +189,7 @@ fn next_item(s: Context, seen: Seen) -> Next
     ensures { result ≡ (T.own_row width s OwnPlace.NextItem).after seen }
 {
     if s.drain.at == s.drain.end {
-        row::ends(s, Answer::Done, Change::None)
+        row::ends(s, Answer::Done, None)
     } else {
         drained(s, seen.token)
     }
@@ -242,7 +199,7 @@ fn drop_item(s: Context, seen: Seen) -> Next
     ensures { result ≡ (T.own_row width s OwnPlace.DropItem).after seen }
 {
     if s.drain.at == s.drain.end {
-        row::ends(s, Answer::Closed, Change::None)
+        row::ends(s, Answer::Closed, None)
     } else {
         dropping(s)
     }
@@ -252,30 +209,24 @@ pub fn advance(place: OwnPlace, s: Context, seen: Seen) -> Next
     ensures { result ≡ (T.own_row width s place).after seen }
 {
     match place {
-        OwnPlace::PushWrite {
-            token,
-            word,
-            tail: _,
-        } => {
-            row::on(
-                s,
-                Place::Own(OwnPlace::PushStore { word: word }),
-                Change::Offered(token),
-            )
-        }
-        OwnPlace::PushStore { word: _ } => row::ends(s, Answer::Pushed, Change::Accepted),
+        OwnPlace::PushWrite { token, word, .. } => row::on(
+            s,
+            Place::Own(OwnPlace::PushStore { word }),
+            Some(Change::Offered(token)),
+        ),
+        OwnPlace::PushStore { .. } => row::ends(s, Answer::Pushed, Some(Change::Accepted)),
         OwnPlace::ExtendMore {
             pops,
             tail,
             limit,
             written,
         } => extended(s, pops, tail, limit, written, seen),
-        OwnPlace::ExtendStore {
-            pops: _,
-            tail: _,
-            written,
-        } => row::ends(s, Answer::Extended(written), Change::Accepted),
-        OwnPlace::PopRead { at: _ } => row::ends(s, Answer::Popped(seen.token), Change::None),
+        OwnPlace::ExtendStore { written, .. } => row::ends(
+            s,
+            Answer::Extended(written),
+            Some(Change::Accepted),
+        ),
+        OwnPlace::PopRead { .. } => row::ends(s, Answer::Popped(seen.token), None),
         OwnPlace::NextItem => next_item(s, seen),
         OwnPlace::DropItem => drop_item(s, seen),
     }

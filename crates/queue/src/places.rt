@@ -15,15 +15,7 @@ use tables::state::Kind;
 pub fn is_idle(place: Place) -> bool
     ensures { result ≡ T.is_idle place }
 {
-    match place {
-        Place::Idle => true,
-        Place::Lifo(_) => false,
-        Place::Fifo(_) => false,
-        Place::Own(_) => false,
-        Place::Book(_, _) => false,
-        Place::Move(_) => false,
-        Place::Close(_, _) => false,
-    }
+    matches!(place, Place::Idle)
 }
 
 fn room_source(who: u64, call: RoomCall) -> u64
@@ -39,18 +31,10 @@ fn lifo_source(who: u64, place: LifoPlace) -> u64
     ensures { result ≡ T.lifo_source who place }
 {
     match place {
-        LifoPlace::LoadPushes(call) => room_source(who, call),
-        LifoPlace::LoadPacked { call, pushes: _ } => room_source(who, call),
-        LifoPlace::LoadCompleted {
-            call,
-            pushes: _,
-            packed: _,
-        } => room_source(who, call),
-        LifoPlace::PopPacked => who,
-        LifoPlace::PopPushes { packed: _ } => who,
-        LifoPlace::PopCas { packed: _, tail: _ } => who,
-        LifoPlace::EmptyPushes => who,
-        LifoPlace::EmptyPacked { pushes: _ } => who,
+        LifoPlace::LoadPushes(call)
+        | LifoPlace::LoadPacked { call, .. }
+        | LifoPlace::LoadCompleted { call, .. } => room_source(who, call),
+        _ => who,
     }
 }
 
@@ -58,15 +42,8 @@ fn fifo_source(who: u64, place: FifoPlace) -> u64
     ensures { result ≡ T.fifo_source who place }
 {
     match place {
-        FifoPlace::LoadPacked(_) => who,
-        FifoPlace::LoadTail { call: _, packed: _ } => who,
-        FifoPlace::DestTail(transfer) => transfer.source,
-        FifoPlace::DestPacked { transfer, tail: _ } => transfer.source,
-        FifoPlace::PopPacked => who,
-        FifoPlace::PopTail { packed: _ } => who,
-        FifoPlace::PopCas { packed: _ } => who,
-        FifoPlace::EmptyPacked => who,
-        FifoPlace::EmptyTail { packed: _ } => who,
+        FifoPlace::DestTail(transfer) | FifoPlace::DestPacked { transfer, .. } => transfer.source,
+        _ => who,
     }
 }
 
@@ -83,13 +60,9 @@ fn move_source(place: MovePlace) -> u64
     ensures { result ≡ T.move_source place }
 {
     match place {
-        MovePlace::ReadSlot { booked, moved: _ } => booked.source,
-        MovePlace::WriteSlot {
-            booked,
-            moved: _,
-            token: _,
-        } => booked.source,
-        MovePlace::Land { booked, last: _ } => booked.source,
+        MovePlace::ReadSlot { booked, .. }
+        | MovePlace::WriteSlot { booked, .. }
+        | MovePlace::Land { booked, .. } => booked.source,
     }
 }
 
@@ -97,14 +70,8 @@ fn closing_source(who: u64, call: ClosingCall) -> u64
     ensures { result ≡ T.closing_source who call }
 {
     match call {
-        ClosingCall::Steal { source, count: _ } => source,
-        ClosingCall::Take {
-            source,
-            token: _,
-            count: _,
-        } => source,
-        ClosingCall::Next(_) => who,
-        ClosingCall::Drop => who,
+        ClosingCall::Steal { source, .. } | ClosingCall::Take { source, .. } => source,
+        ClosingCall::Next(_) | ClosingCall::Drop => who,
     }
 }
 
@@ -113,65 +80,36 @@ pub fn source_of(who: u64, place: Place) -> u64
     ensures { result ≡ T.source_of who place }
 {
     match place {
-        Place::Idle => who,
+        Place::Idle | Place::Own(_) => who,
         Place::Lifo(p) => lifo_source(who, p),
         Place::Fifo(p) => fifo_source(who, p),
-        Place::Own(_) => who,
         Place::Book(g, _) => booking_source(who, g),
         Place::Move(p) => move_source(p),
         Place::Close(e, _) => closing_source(who, e),
     }
 }
 
-pub fn is_lifo(kind: Kind) -> bool
-    ensures { result ≡ T.is_kind kind Kind.Lifo }
-{
-    match kind {
-        Kind::Lifo => true,
-        Kind::Fifo => false,
-    }
-}
-
-pub fn is_fifo(kind: Kind) -> bool
-    ensures { result ≡ T.is_kind kind Kind.Fifo }
-{
-    match kind {
-        Kind::Lifo => false,
-        Kind::Fifo => true,
-    }
-}
-
-fn has_booking(from: Kind, place: BookPlace) -> bool
-    ensures { result ≡ T.is_kind from (T.book_kind place) }
+// The kind whose tables have a booking's place.
+fn book_kind(place: BookPlace) -> Kind
+    ensures { result ≡ T.book_kind place }
 {
     match place {
-        BookPlace::LifoPacked => is_lifo(from),
-        BookPlace::LifoCompleted { packed: _ } => is_lifo(from),
-        BookPlace::LifoPushes {
-            packed: _,
-            completed: _,
-        } => is_lifo(from),
-        BookPlace::LifoCas {
-            packed: _,
-            completed: _,
-            count: _,
-        } => is_lifo(from),
-        BookPlace::FifoPacked => is_fifo(from),
-        BookPlace::FifoTail { packed: _ } => is_fifo(from),
-        BookPlace::FifoCas {
-            packed: _,
-            count: _,
-        } => is_fifo(from),
+        BookPlace::LifoPacked
+        | BookPlace::LifoCompleted { .. }
+        | BookPlace::LifoPushes { .. }
+        | BookPlace::LifoCas { .. } => Kind::Lifo,
+        BookPlace::FifoPacked | BookPlace::FifoTail { .. } | BookPlace::FifoCas { .. } =>
+            Kind::Fifo,
     }
 }
 
-fn has_closing(from: Kind, place: ClosePlace) -> bool
-    ensures { result ≡ T.is_kind from (T.close_kind place) }
+// And a closing's.
+fn close_kind(place: ClosePlace) -> Kind
+    ensures { result ≡ T.close_kind place }
 {
     match place {
-        ClosePlace::StoreCompleted { head: _ } => is_lifo(from),
-        ClosePlace::LoadHeads => is_fifo(from),
-        ClosePlace::CasHeads { packed: _ } => is_fifo(from),
+        ClosePlace::StoreCompleted { .. } => Kind::Lifo,
+        ClosePlace::LoadHeads | ClosePlace::CasHeads { .. } => Kind::Fifo,
     }
 }
 
@@ -180,13 +118,11 @@ pub fn has_place(kind: Kind, from: Kind, place: Place) -> bool
     ensures { result ≡ T.has_place kind from place }
 {
     match place {
-        Place::Idle => true,
-        Place::Lifo(_) => is_lifo(kind),
-        Place::Fifo(_) => is_fifo(kind),
-        Place::Own(_) => true,
-        Place::Book(_, p) => has_booking(from, p),
-        Place::Move(_) => true,
-        Place::Close(_, p) => has_closing(from, p),
+        Place::Idle | Place::Own(_) | Place::Move(_) => true,
+        Place::Lifo(_) => kind == Kind::Lifo,
+        Place::Fifo(_) => kind == Kind::Fifo,
+        Place::Book(_, p) => from == book_kind(p),
+        Place::Close(_, p) => from == close_kind(p),
     }
 }
 
@@ -194,9 +130,7 @@ fn rule_wish(rule: Rule) -> Wish
     ensures { result ≡ T.rule_wish rule }
 {
     match rule {
-        Rule::All => Wish::Nothing,
-        Rule::Half => Wish::Nothing,
-        Rule::Fixed(_) => Wish::Nothing,
+        Rule::All | Rule::Half | Rule::Fixed(_) => Wish::Nothing,
         Rule::Given => Wish::Number,
     }
 }
@@ -205,23 +139,10 @@ fn book_wish(call: BookingCall, place: BookPlace) -> Wish
     ensures { result ≡ T.book_wish call place }
 {
     match place {
-        BookPlace::LifoPacked => Wish::Nothing,
-        BookPlace::LifoCompleted { packed: _ } => Wish::Nothing,
-        BookPlace::LifoPushes {
-            packed: _,
-            completed: _,
-        } => rule_wish(counting::rule_of(call)),
-        BookPlace::LifoCas {
-            packed: _,
-            completed: _,
-            count: _,
-        } => Wish::Nothing,
-        BookPlace::FifoPacked => Wish::Nothing,
-        BookPlace::FifoTail { packed: _ } => rule_wish(counting::rule_of(call)),
-        BookPlace::FifoCas {
-            packed: _,
-            count: _,
-        } => Wish::Nothing,
+        BookPlace::LifoPushes { .. } | BookPlace::FifoTail { .. } => rule_wish(counting::rule_of(
+            call,
+        )),
+        _ => Wish::Nothing,
     }
 }
 
@@ -229,26 +150,8 @@ fn own_wish(place: OwnPlace) -> Wish
     ensures { result ≡ T.own_wish place }
 {
     match place {
-        OwnPlace::PushWrite {
-            token: _,
-            word: _,
-            tail: _,
-        } => Wish::Nothing,
-        OwnPlace::PushStore { word: _ } => Wish::Nothing,
-        OwnPlace::ExtendMore {
-            pops: _,
-            tail: _,
-            limit: _,
-            written: _,
-        } => Wish::Token,
-        OwnPlace::ExtendStore {
-            pops: _,
-            tail: _,
-            written: _,
-        } => Wish::Nothing,
-        OwnPlace::PopRead { at: _ } => Wish::Nothing,
-        OwnPlace::NextItem => Wish::Nothing,
-        OwnPlace::DropItem => Wish::Nothing,
+        OwnPlace::ExtendMore { .. } => Wish::Token,
+        _ => Wish::Nothing,
     }
 }
 
@@ -257,93 +160,42 @@ pub fn wish_of(place: Place) -> Wish
     ensures { result ≡ T.wish_of place }
 {
     match place {
-        Place::Idle => Wish::Nothing,
-        Place::Lifo(_) => Wish::Nothing,
-        Place::Fifo(_) => Wish::Nothing,
         Place::Own(p) => own_wish(p),
         Place::Book(g, p) => book_wish(g, p),
-        Place::Move(_) => Wish::Nothing,
-        Place::Close(_, _) => Wish::Nothing,
+        _ => Wish::Nothing,
     }
 }
 
 pub fn wishes(wish: Wish) -> bool
     ensures { result ≡ T.wishes wish }
 {
-    match wish {
-        Wish::Nothing => false,
-        Wish::Number => true,
-        Wish::Token => true,
-    }
+    wish != Wish::Nothing
 }
 
 pub fn is_cas(access: Access) -> bool
     ensures { result ≡ X.is_cas access }
 {
-    match access {
-        Access::Touch => false,
-        Access::LoadPushes => false,
-        Access::LoadPacked => false,
-        Access::LoadCompleted => false,
-        Access::StorePushes(_) => false,
-        Access::StoreCompleted(_) => false,
-        Access::Cas { old: _, new: _ } => true,
-        Access::Read(_) => false,
-        Access::Write(_, _) => false,
-    }
+    matches!(access, Access::Cas { .. })
 }
 
-// Nothing is wanted: plain, or weak at a compare-exchange.
-fn plain_fits(cas: bool, mark: Mark) -> bool
-    ensures { result ≡ T.mark_fits Wish.Nothing cas mark }
-{
-    match mark {
-        Mark::Plain => true,
-        Mark::Weak => cas,
-        Mark::Carry(_) => false,
-        Mark::End => false,
-    }
-}
-
-fn number_fits(cas: bool, mark: Mark) -> bool
-    ensures { result ≡ T.mark_fits Wish.Number cas mark }
-{
-    match mark {
-        Mark::Plain => false,
-        Mark::Weak => false,
-        Mark::Carry(_) => true,
-        Mark::End => false,
-    }
-}
-
-fn token_fits(cas: bool, mark: Mark) -> bool
-    ensures { result ≡ T.mark_fits Wish.Token cas mark }
-{
-    match mark {
-        Mark::Plain => false,
-        Mark::Weak => false,
-        Mark::Carry(_) => true,
-        Mark::End => true,
-    }
-}
-
+// Where nothing is wanted: plain, or weak at a compare-exchange.
 pub fn mark_fits(wish: Wish, cas: bool, mark: Mark) -> bool
     ensures { result ≡ T.mark_fits wish cas mark }
 {
     match wish {
-        Wish::Nothing => plain_fits(cas, mark),
-        Wish::Number => number_fits(cas, mark),
-        Wish::Token => token_fits(cas, mark),
+        Wish::Nothing => mark == Mark::Plain || cas && mark == Mark::Weak,
+        Wish::Number => matches!(mark, Mark::Carry(_)),
+        Wish::Token => matches!(mark, Mark::Carry(_) | Mark::End),
     }
 }
 
-fn transfer_call(source: u64, rule: Rule, which: Transfer) -> TransferCall
-    ensures { result ≡ T.transfer_call source rule which }
+fn transfer_call(source: u64, rule: Rule, transfer: Transfer) -> TransferCall
+    ensures { result ≡ T.transfer_call source rule transfer }
 {
     TransferCall {
-        source: source,
-        rule: rule,
-        transfer: which,
+        source,
+        rule,
+        transfer,
     }
 }
 
@@ -410,15 +262,7 @@ pub fn call_source(who: u64, call: Call) -> u64
     ensures { result ≡ T.call_source who call }
 {
     match call {
-        Call::Push(_) => who,
-        Call::Pop => who,
-        Call::Extend => who,
-        Call::Drain(_) => who,
-        Call::Next => who,
-        Call::Drop => who,
-        Call::Steal { source, rule: _ } => source,
-        Call::Take { source, rule: _ } => source,
-        Call::Spare => who,
-        Call::Empty => who,
+        Call::Steal { source, .. } | Call::Take { source, .. } => source,
+        _ => who,
     }
 }

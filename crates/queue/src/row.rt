@@ -12,7 +12,7 @@ pub fn own(access: Access) -> Wanted
 {
     Wanted {
         whose: Whose::Own,
-        access: access,
+        access,
     }
 }
 
@@ -22,32 +22,30 @@ pub fn source(access: Access) -> Wanted
 {
     Wanted {
         whose: Whose::Source,
-        access: access,
+        access,
     }
 }
 
-// The call goes on at a place.
-pub fn on(s: Context, place: Place, change: Change) -> Next
+// The call goes on at a place, with an effect or none.
+pub fn on(s: Context, place: Place, change: Option<Change>) -> Next
     ensures { result ≡ Y.on s place change }
 {
-    let drain = s.drain;
     Next {
-        place: place,
-        drain: drain,
-        answer: Answer::Pending,
-        change: change,
+        place,
+        drain: s.drain,
+        answer: None,
+        change,
     }
 }
 
-// The call ends.
-pub fn ends(s: Context, answer: Answer, change: Change) -> Next
+// The call ends, with an effect or none.
+pub fn ends(s: Context, answer: Answer, change: Option<Change>) -> Next
     ensures { result ≡ Y.ends s answer change }
 {
-    let drain = s.drain;
     Next {
         place: Place::Idle,
-        drain: drain,
-        answer: answer,
-        change: change,
+        drain: s.drain,
+        answer: Some(answer),
+        change,
     }
 }

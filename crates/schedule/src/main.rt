@@ -9,25 +9,30 @@ use text::run;
 // How many bytes are read or written at a time.
 const PIECE: usize = 65536;
 
-// Whether the output could be written; where it could not, that is said.
-fn wrote(output: &mut impl Write, complaints: &mut impl Write, out: &[u8], put: usize) -> bool
-    requires { put ≤ length out.now }
-{
-    let well = output.write_all(&out[0..put]).is_ok();
-    if !well {
-        let _ = complaints.write_all(b"schedule: the output cannot be written\n");
+// What can fail.
+#[derive(Clone, Copy)]
+enum Fault {
+    Input,
+    Output,
+}
+
+impl Fault {
+    // What is then said.
+    fn message(self) -> &'static [u8] {
+        match self {
+            Fault::Input => b"schedule: the input cannot be read\n",
+            Fault::Output => b"schedule: the output cannot be written\n",
+        }
     }
-    well
 }
 
 fn run(
     input: &mut impl Read,
     output: &mut impl Write,
-    complaints: &mut impl Write,
     buf: &mut [u8],
     items: &mut [u64],
     out: &mut [u8],
-)
+) -> Result<(), Fault>
     requires { 128 ≤ length out.old }
 {
     let mut r = run::start(items);
@@ -35,48 +40,40 @@ fn run(
         if run::is_over(r) {
             break;
         }
-        let Ok(n) = input.read(&mut *buf) else {
-            let _ = complaints.write_all(b"schedule: the input cannot be read\n");
-            return;
-        };
+        let n = input.read(buf).map_err(|_| Fault::Input)?;
         if n == 0 {
             break;
         }
-        let mut used: usize = 0;
+        let mut used = 0;
         while used < n {
-            let fed = run::feed(r, &mut *items, &buf[used..n], &mut *out);
-            if !wrote(output, complaints, out, fed.put) {
-                return;
-            }
+            let fed = run::feed(r, items, &buf[used..n], out);
+            output
+                .write_all(&out[..fed.put])
+                .map_err(|_| Fault::Output)?;
             r = fed.run;
             used += fed.used;
         }
     }
     for _ in 0..u64::MAX {
-        let rested = run::rests(r, &mut *items, &mut *out);
-        if !wrote(output, complaints, out, rested.put) {
-            return;
-        }
+        let rested = run::rests(r, items, out);
+        output
+            .write_all(&out[..rested.put])
+            .map_err(|_| Fault::Output)?;
         if rested.done {
-            return;
+            break;
         }
         r = rested.run;
     }
+    Ok(())
 }
 
 fn main(rt: HostRuntime) {
-    let mut buf = [0u8; PIECE];
-    let mut out = [0u8; PIECE];
+    let mut buf = [0; PIECE];
+    let mut out = [0; PIECE];
     let mut items = [0u64; 4096]; // item slots, for all queues together
     let mut input = rt.stdin();
     let mut output = rt.stdout();
-    let mut complaints = rt.stderr();
-    run(
-        &mut input,
-        &mut output,
-        &mut complaints,
-        &mut buf,
-        &mut items,
-        &mut out,
-    );
+    if let Err(fault) = run(&mut input, &mut output, &mut buf, &mut items, &mut out) {
+        let _ = rt.stderr().write_all(fault.message());
+    }
 }

@@ -2,7 +2,7 @@
 use Prim.Native.Nat.{ℕ, ◌^◌, ◌+◌}
 use mathlib.Core.Path.{◌≡◌, refl}
 use mathlib.Core.List.{List, [], ◌∷◌, ◌++◌}
-use Rattle.tables.specs.declared.state.Opened.{Opened}
+use Rattle.tables.specs.Step.{Opening}
 use Rattle.words.specs.Word.{doubled, pow_below, packed}
 use Rattle.tables.specs.declared.answer.Answer.{Answer}
 use Rattle.tables.specs.declared.answer.Change.{Change}
@@ -55,10 +55,10 @@ said (r ∷ l) = r.says ∷ said l
 -- ---- the runs, each from a fresh machine of 32 bits
 
 -- B: the requests, a party each
-unfoldable pub asks : Kind → List ℕ → Opened
+unfoldable pub asks : Kind → List ℕ → Opening
 asks k rs = opening 32 16 (repeat 16 k) 4 rs (repeat 4 0) (2 ^ 32)
 
-abbrev pub capacities : Opened → List ℕ
+abbrev pub capacities : Opening → List ℕ
 capacities o =
     (queue_at o.machine 0).capacity ∷ (queue_at o.machine 1).capacity ∷ (queue_at o.machine 2).capacity
     ∷ (queue_at o.machine 3).capacity

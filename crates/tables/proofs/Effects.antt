@@ -3,11 +3,11 @@ use Prim.Native.Nat.{ℕ, ◌+◌, ◌≤◌, ◌<◌}
 use mathlib.Core.Path.{◌≡◌, refl, sym, ap, subst, ◌∙◌}
 use mathlib.Core.Bool.{Bool, true, false, not, true≢false}
 use mathlib.Core.List.{List, [], ◌∷◌}
-use mathlib.Core.Logic.{◌⊎◌, inl, inr, ⊎_elim}
 use native.Mathlib.Omega.{arith}
 use borrow.Author.Tests.{lt-ltb}
 use lib.Dec.{ltb, eqb}
 use lib.ListN.{length}
+use Rattle.std.specs.Prelude.{Option, Some, None, IfSome}
 use Rattle.words.specs.Word.{pick, plus}
 use Rattle.tables.specs.declared.access.Context.{Context}
 use Rattle.tables.specs.declared.access.Seen.{Seen}
@@ -20,13 +20,14 @@ use Rattle.tables.specs.declared.state.Machine.{Machine}
 use Rattle.tables.specs.declared.place.OwnPlace.{OwnPlace}
 use Rattle.tables.specs.declared.place.Place.{Place}
 use Rattle.tables.specs.Answer.{is_pending}
-use Rattle.tables.specs.Effect.{change_row, is_none, drops_of, effect_of}
+use Rattle.tables.specs.Effect.{change_row, drops_of, effect_of}
 use Rattle.tables.specs.Row.{Row}
 use Rattle.tables.specs.Tables.{row_of, wish_of, wishes}
-use Rattle.tables.specs.Step.{andb, place_at, source_at, context_of, row_at, site, site_at, access_at, next_at, taken, Alone, appended, noted, stops, onward, runs, still, alone}
+use Rattle.tables.specs.Step.{andb, place_at, source_at, context_of, site, site_at, access_at, next_at, taken, Alone, appended, noted, stops, onward, runs, still, alone}
 use Rattle.tables.proofs.Bools.{neither, pick_if, pick_yes, and_both}
-use Rattle.tables.proofs.Rows.{change_if, dropped_is}
-use Rattle.tables.proofs.Left.{left, left_most, drops_at, effects}
+use Rattle.tables.proofs.Rows.{dropped_is}
+use Rattle.tables.proofs.Maybe.{change_in, effects, drops_maybe}
+use Rattle.tables.proofs.Left.{left, left_most, drops_at}
 use Rattle.tables.proofs.Places.{Goes, goes}
 use Rattle.tables.proofs.Sound.{Sound, site_below, taken_goes}
 use Rattle.tables.proofs.Refused.{alone_if}
@@ -35,10 +36,9 @@ use Rattle.tables.proofs.Alone.{runs_if}
 
 -- ---- an effect noted
 
-pub effect_change : (p q s : ℕ) (c : Change) → (effect_of p q s c).change ≡ c
-effect_change p q s =
-    change_if (λ (c : Change). (effect_of p q s c).change ≡ c) refl
-    (λ c n. pick_if (λ (e : Effect). e.change ≡ c) (is_none c) (λ t. absurd (true≢false (sym t ∙ n))) (λ t. refl))
+pub effect_change : (p q s : ℕ) (c : Option Change) → change_in (effect_of p q s c) ≡ c
+effect_change p q s None = refl
+effect_change p q s (Some c) = refl
 
 appended_length : (l : List Effect) (e : Effect) → length (appended l e) ≤ length l + 1
 unfolding appended
@@ -48,12 +48,9 @@ appended_length (x ∷ []) e =
     (λ h. omega arith)
 appended_length (x ∷ y ∷ l) e = omega (arith, appended_length (y ∷ l) e)
 
-pub noted_length : (l : List Effect) (e : Effect) → length (noted l e) ≤ length l + effects e.change
-noted_length l e = at (is_none e.change)
-  where
-    at : (t : Bool) → length (pick t l (appended l e)) ≤ length l + pick t 0 1
-    at true = omega arith
-    at false = appended_length l e
+pub noted_length : (l : List Effect) (e : Option Effect) → length (noted l e) ≤ length l + effects (change_in e)
+noted_length l None = omega arith
+noted_length l (Some e) = appended_length l e
 
 -- each effect drops n at most
 abbrev pub DropsMost : ℕ → List Effect → Type 0
@@ -72,8 +69,10 @@ most_appended n (x ∷ []) e m h =
     (λ i. (omega (arith, m.0), (omega arith, tt)))
 most_appended n (x ∷ y ∷ l) e m h = (omega (arith, m.0), most_appended n (y ∷ l) e m.1 h)
 
-pub most_noted : (n : ℕ) (l : List Effect) (e : Effect) → DropsMost n l → drops_of e.change ≤ 1 → DropsMost (n + 1) (noted l e)
-most_noted n l e m h = pick_if (DropsMost (n + 1)) (is_none e.change) (λ i. most_more n l m) (λ i. most_appended n l e m h)
+pub most_noted : (n : ℕ) (l : List Effect) (e : Option Effect) → DropsMost n l → drops_maybe (change_in e) ≤ 1
+    → DropsMost (n + 1) (noted l e)
+most_noted n l None m h = most_more n l m
+most_noted n l (Some e) m h = most_appended n l e m h
 
 -- nothing yet, or dropped ones only
 abbrev pub OnlyDropped : List Effect → Type 0
@@ -94,18 +93,21 @@ only_appended (x ∷ []) e o h =
     (omega arith)
 only_appended (x ∷ y ∷ l) e o h = absurd o
 
-noted_only : (l : List Effect) (e : Effect) → OnlyDropped l → (is_none e.change ≡ true) ⊎ (0 < drops_of e.change) → OnlyDropped (noted l e)
-noted_only l e o c =
-    pick_if OnlyDropped (is_none e.change) (λ h. o)
-    (λ h. ⊎_elim (λ i. absurd (true≢false (sym i ∙ h))) (λ i. only_appended l e o i) c)
+-- none, or a dropped one
+abbrev NoneButDropped : Option Change → Type 0
+NoneButDropped c = IfSome c (λ d. 0 < drops_of d)
+
+noted_only : (l : List Effect) (e : Option Effect) → OnlyDropped l → NoneButDropped (change_in e) → OnlyDropped (noted l e)
+noted_only l None o c = o
+noted_only l (Some e) o c = only_appended l e o c
 
 -- ---- the place that drops: on the own queue, and what it leads to
 
 record Drops (r : Row) (x : Seen) : Type 0 where
   own_queue : r.whose ≡ Whose.Own
   small : left (r.after x).place ≤ 2
-  change : (is_none (r.after x).change ≡ true) ⊎ (0 < drops_of (r.after x).change)
-  one : drops_of (r.after x).change ≤ 1
+  change : NoneButDropped (r.after x).change
+  one : drops_maybe (r.after x).change ≤ 1
 
 drops_row : (w : ℕ) (s : Context) (p : Place) (x : Seen) → drops_at p ≡ true → Drops (row_of w s p) x
 drops_row w s Place.Idle x h = absurd (true≢false (sym h))
@@ -122,11 +124,11 @@ drops_row w s (Place.Own p) x h = at p h
     at OwnPlace.NextItem h = absurd (true≢false (sym h))
     at OwnPlace.DropItem h =
         pick_if (λ (r : Row). Drops r x) (eqb s.drain.at s.drain.end)
-        (λ i. record { own_queue = refl; small = omega arith; change = inl refl; one = omega arith })
+        (λ i. record { own_queue = refl; small = omega arith; change = tt; one = omega arith })
         (λ i. record {
           own_queue = refl;
           small = pick_if (λ (q : Place). left q ≤ 2) (eqb (plus w s.drain.at 1) s.drain.end) (λ j. omega arith) (λ j. omega arith);
-          change = inr (omega arith);
+          change = omega arith;
           one = omega arith;
         })
 drops_row w s (Place.Book g p) x h = absurd (true≢false (sym h))
@@ -134,53 +136,51 @@ drops_row w s (Place.Move p) x h = absurd (true≢false (sym h))
 drops_row w s (Place.Close e p) x h = absurd (true≢false (sym h))
 
 -- a step drops one at most
-pub drops_one : (w : ℕ) (s : Context) (p : Place) (x : Seen) → drops_of ((row_of w s p).after x).change ≤ 1
+pub drops_one : (w : ℕ) (s : Context) (p : Place) (x : Seen) → drops_maybe ((row_of w s p).after x).change ≤ 1
 drops_one w s p x = at (drops_at p) refl
   where
-    at : (t : Bool) → drops_at p ≡ t → drops_of ((row_of w s p).after x).change ≤ 1
+    at : (t : Bool) → drops_at p ≡ t → drops_maybe ((row_of w s p).after x).change ≤ 1
     at false d = omega (arith, (goes (λ q. Kind.Lifo) 0 w s p x).sole d)
     at true d = (drops_row w s p x d).one
 
-effect_dropped : (p q s : ℕ) (c : Change) → 0 < drops_of c → ((effect_of p q s c).party ≡ p) × ((effect_of p q s c).queue ≡ q)
-effect_dropped p q s c h =
-    subst (λ (d : Change). ((effect_of p q s d).party ≡ p) × ((effect_of p q s d).queue ≡ q)) (sym (dropped_is c h)) (refl, refl)
+-- what is dropped, party p drops from its own queue
+abbrev pub Own : ℕ → Effect → Type 0
+Own p e = 0 < drops_of e.change → (e.party ≡ p) × (e.queue ≡ p)
 
--- what a step drops, its party drops from its own queue
-pub dropped_own : (w : ℕ) (m : Machine) (xs : List ℕ) (who : ℕ) (mark : Mark) → 0 < drops_of (taken w m xs who mark).effect.change
-    → ((taken w m xs who mark).effect.party ≡ who) × ((taken w m xs who mark).effect.queue ≡ who)
+effect_dropped : (q s : ℕ) (c : Change) → 0 < drops_of c → pick (change_row c).lands s q ≡ q
+effect_dropped q s c h = subst (λ (d : Change). pick (change_row d).lands s q ≡ q) (sym (dropped_is c h)) refl
+
+effect_own : (p q s : ℕ) (c : Option Change) → (0 < drops_maybe c → q ≡ p) → IfSome (effect_of p q s c) (Own p)
+effect_own p q s None h = tt
+effect_own p q s (Some c) h = λ d. (refl, effect_dropped q s c d ∙ h d)
+
+pub dropped_own : (w : ℕ) (m : Machine) (xs : List ℕ) (who : ℕ) (mark : Mark) → IfSome (taken w m xs who mark).effect (Own who)
 unfolding taken
-dropped_own w m xs who mark h = at (drops_at (place_at m who)) refl
+dropped_own w m xs who mark =
+    effect_own who (site_at w m who mark) (source_at m who) (next_at w m xs who mark).change
+    (at (drops_at (place_at m who)) refl)
   where
-    d : Change
-    d = (next_at w m xs who mark).change
-
-    some : 0 < drops_of d
-    some = rw (effect_change who (site_at w m who mark) (source_at m who) d) at h
-
-    at : (t : Bool) → drops_at (place_at m who) ≡ t
-        → ((effect_of who (site_at w m who mark) (source_at m who) d).party ≡ who) ×
-        ((effect_of who (site_at w m who mark) (source_at m who) d).queue ≡ who)
-    at false i = absurd (omega (arith, some, (taken_goes w 0 m xs who mark).sole i))
-    at true i =
-        let e = effect_dropped who (site_at w m who mark) (source_at m who) d some in
-        let mine-is : (row_at w m who mark).whose ≡ Whose.Own =
-        (drops_row w (context_of m who mark) (place_at m who) (access_at w m xs who mark).seen i).own_queue in
-        (e.0, e.1 ∙ ap (λ (x : Whose). site x who (source_at m who)) mine-is)
+    at : (t : Bool) → drops_at (place_at m who) ≡ t → 0 < drops_maybe (next_at w m xs who mark).change → site_at w m who mark ≡ who
+    at false i h = absurd (omega (arith, (taken_goes w 0 m xs who mark).sole i))
+    at true i h =
+        ap (λ (x : Whose). site x who (source_at m who))
+        (drops_row w (context_of m who mark) (place_at m who) (access_at w m xs who mark).seen i).own_queue
 
 -- ---- an effect names a party and a queue of the record
 
-module _ (n who q s : ℕ) (hn : 0 < n) (hw : who < n) (hq : q < n) (hs : s < n) where
-  effect_names : (c : Change) → ((effect_of who q s c).party < n) × ((effect_of who q s c).queue < n)
-  effect_names c =
-      pick_if (λ (e : Effect). (e.party < n) × (e.queue < n)) (is_none c) (λ _. (hn, hn))
-      (λ _. (hw, pick_if (λ (x : ℕ). x < n) (change_row c).lands (λ _. hs) (λ _. hq)))
+-- those below n
+abbrev pub Names : ℕ → Effect → Type 0
+Names n e = (e.party < n) × (e.queue < n)
+
+effect_names : (n who q s : ℕ) → who < n → q < n → s < n → (c : Option Change) → IfSome (effect_of who q s c) (Names n)
+effect_names n who q s hw hq hs None = tt
+effect_names n who q s hw hq hs (Some c) = (hw, pick_if (λ (x : ℕ). x < n) (change_row c).lands (λ _. hs) (λ _. hq))
 
 pub effect_below : (w most : ℕ) (m : Machine) (xs : List ℕ) (who : ℕ) (mark : Mark) (lent : ℕ) → Sound w most m lent → who < m.parties
-    → ((taken w m xs who mark).effect.party < m.parties) × ((taken w m xs who mark).effect.queue < m.parties)
+    → IfSome (taken w m xs who mark).effect (Names m.parties)
 unfolding taken
 effect_below w most m xs who mark lent s h =
-    effect_names m.parties who (site_at w m who mark) (source_at m who) s.some h (site_below w most m xs who mark lent s h)
-    (s.placed who h).source
+    effect_names m.parties who (site_at w m who mark) (source_at m who) h (site_below w most m xs who mark lent s h) (s.placed who h).source
     (next_at w m xs who mark).change
 
 -- ---- what a run alone keeps: effects so far and those still to come are at most three
@@ -193,11 +193,12 @@ pub few_at_none : (p : Place) → FewAt p []
 few_at_none p = record { count = omega (arith, left_most p); only = λ i. tt }
 
 -- a row that wants nothing, its effect noted
-module _ (w : ℕ) (s : Context) (p : Place) (x : Seen) {l : List Effect} (e : Effect) (f : FewAt p l) (h : wishes (wish_of p) ≡ false) (is : e.change ≡ ((row_of w s p).after x).change) where
+module _ (w : ℕ) (s : Context) (p : Place) (x : Seen) {l : List Effect} (e : Option Effect) (f : FewAt p l)
+    (h : wishes (wish_of p) ≡ false) (is : change_in e ≡ ((row_of w s p).after x).change) where
   -- dropped ones are still the only ones
   only_noted : drops_at p ≡ true → OnlyDropped (noted l e)
   only_noted d =
-      noted_only l e (f.only d) (subst (λ (y : Change). (is_none y ≡ true) ⊎ (0 < drops_of y)) (sym is) (drops_row w s p x d).change)
+      noted_only l e (f.only d) (subst NoneButDropped (sym is) (drops_row w s p x d).change)
 
   pub few_on : FewAt ((row_of w s p).after x).place (noted l e)
   few_on = at (drops_at p) refl

@@ -2,8 +2,6 @@
 use Prim.Native.Nat.{ℕ, ◌≤◌}
 use mathlib.Core.Bool.{Bool, true, false}
 use native.Mathlib.Omega.{arith}
-use Rattle.words.specs.Word.{pick}
-use Rattle.tables.specs.declared.answer.Change.{Change}
 use Rattle.tables.specs.declared.place.BookingCall.{BookingCall}
 use Rattle.tables.specs.declared.place.FifoPlace.{FifoPlace}
 use Rattle.tables.specs.declared.place.LifoPlace.{LifoPlace}
@@ -11,7 +9,6 @@ use Rattle.tables.specs.declared.place.OwnPlace.{OwnPlace}
 use Rattle.tables.specs.declared.place.OwnerCall.{OwnerCall}
 use Rattle.tables.specs.declared.place.Place.{Place}
 use Rattle.tables.specs.declared.place.RoomCall.{RoomCall}
-use Rattle.tables.specs.Effect.{is_none}
 
 -- until the answer; tokens dropped one after the other count as one
 
@@ -85,10 +82,6 @@ drops_at (Place.Own p) = drops_at_own p
 drops_at (Place.Book g p) = false
 drops_at (Place.Move p) = false
 drops_at (Place.Close e p) = false
-
--- 1 for an effect, 0 for none
-abbrev pub effects : Change → ℕ
-effects d = pick (is_none d) 0 1
 
 -- ---- three at the most are left, anywhere
 

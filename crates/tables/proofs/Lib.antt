@@ -2,6 +2,7 @@ pub mod Runs
 pub mod Bench
 pub mod Bools
 pub mod Rows
+pub mod Maybe
 pub mod Bases
 pub mod Performed
 pub mod Left

@@ -3,7 +3,7 @@ use Prim.Native.Nat.{ℕ, ◌<◌}
 use mathlib.Core.Path.{◌≡◌, refl, sym, subst}
 use mathlib.Core.Bool.{true}
 use mathlib.Core.List.{List}
-use Rattle.tables.specs.declared.state.Opened.{Opened}
+use Rattle.tables.specs.Step.{Opening}
 use Rattle.tables.specs.declared.state.Kind.{Kind}
 use Rattle.tables.specs.declared.state.Machine.{Machine}
 use Rattle.tables.specs.declared.state.Party.{Party}
@@ -26,5 +26,5 @@ module _ (w most : ℕ) (ks : List Kind) (n : ℕ) (rs ps : List ℕ) (lent : �
 pub opening_sound : (w most : ℕ) (ks : List Kind) (n : ℕ) (rs ps : List ℕ) (lent : ℕ) → 0 < w
     → (opening w most ks n rs ps lent).refusal ≡ 0 → sound w most (opening w most ks n rs ps lent).machine lent ≡ true
 opening_sound w most ks n rs ps lent p =
-    opening_if w most ks n rs ps lent (λ (o : Opened). o.refusal ≡ 0 → sound w most o.machine lent ≡ true)
+    opening_if w most ks n rs ps lent (λ (o : Opening). o.refusal ≡ 0 → sound w most o.machine lent ≡ true)
     (λ e h. facts_sound w most _ lent (opened_sound w most ks n rs ps lent (open_needs w most ks n rs ps lent e) p)) (λ e h. absurd (e h))

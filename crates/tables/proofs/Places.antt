@@ -6,6 +6,7 @@ use mathlib.Core.Bool.{Bool, true, false, not, true≢false}
 use mathlib.Core.Logic.{◌⊎◌, inl, inr}
 use native.Mathlib.Omega.{arith}
 use lib.Dec.{ltb, eqb}
+use Rattle.std.specs.Prelude.{Option, Some, None}
 use Rattle.words.specs.Word.{pick, plus, minus, high, low, least_of}
 use Rattle.tables.specs.declared.access.Context.{Context}
 use Rattle.tables.specs.declared.access.Next.{Next}
@@ -31,12 +32,13 @@ use Rattle.tables.specs.Rule.{ruled}
 use Rattle.tables.specs.Answer.{is_pending}
 use Rattle.tables.specs.Effect.{drops_of}
 use Rattle.tables.specs.Row.{Row, on, ends}
-use Rattle.tables.specs.Table.{booking, closing, answer_of, filled, counted, booked, limit_of, rule_of, extend_row, own_row, move_row, landed, last_read, last_written, ending}
+use Rattle.tables.specs.Table.{booking, closing, filled, counted, booked, limit_of, rule_of, extend_row, own_row, move_row, landed, last_read, last_written, ending}
 use Rattle.tables.specs.LifoTable.{tail_of, rest_of, lifo_row, pop_test}
 use Rattle.tables.specs.FifoTable.{fifo_row}
 use Rattle.tables.specs.Tables.{book_row, close_row, row_of, is_idle, source_of, is_kind, book_kind, close_kind, has_place, booking_source, closing_source, wish_of, wishes}
 use Rattle.tables.proofs.Bools.{pick_if}
-use Rattle.tables.proofs.Left.{left_to_fill, left_at_lifo, left_to_book, left, drops_at, effects}
+use Rattle.tables.proofs.Maybe.{effects, drops_maybe}
+use Rattle.tables.proofs.Left.{left_to_fill, left_at_lifo, left_to_book, left, drops_at}
 
 -- from a place on, for a party and what it sees, by the kind of each queue
 pub record Goes (ks : ℕ → Kind) (who : ℕ) (s : Context) (p : Place) (n : Next) : Type 0 where
@@ -49,9 +51,9 @@ pub record Goes (ks : ℕ → Kind) (who : ℕ) (s : Context) (p : Place) (n : N
   pub over : is_idle p ≡ false → is_idle n.place ≡ not (is_pending n.answer)
   -- what was left of effects, this one and the rest
   pub fewer : wishes (wish_of p) ≡ false → drops_at p ≡ false → effects n.change + left n.place ≤ left p
-  -- only the dropping place drops_of, and nothing leads there
+  -- only the dropping place drops, and nothing leads there
   pub onto : drops_at p ≡ false → drops_at n.place ≡ false
-  pub sole : drops_at p ≡ false → drops_of n.change ≡ 0
+  pub sole : drops_at p ≡ false → drops_maybe n.change ≡ 0
 
 booking_kind : (k : Kind) → is_kind k (book_kind (booking k)) ≡ true
 booking_kind Kind.Lifo = refl
@@ -61,48 +63,38 @@ closing_kind : (k : Kind) (head : ℕ) → is_kind k (close_kind (closing k head
 closing_kind Kind.Lifo head = refl
 closing_kind Kind.Fifo head = refl
 
-answered : (e : ClosingCall) → is_pending (answer_of e) ≡ false
-answered (ClosingCall.Steal s k) = refl
-answered (ClosingCall.Take s t k) = refl
-answered (ClosingCall.Next t) = refl
-answered ClosingCall.Drop = refl
-
-yes_or_no : (t : Bool) → is_pending (pick t Answer.Yes Answer.No) ≡ false
-yes_or_no true = refl
-yes_or_no false = refl
-
 module _ (ks : ℕ → Kind) (who w : ℕ) (s : Context) where
   -- an answer
-  ended : {p : Place} {a : Answer} {d : Change} → is_pending a ≡ false → effects d ≤ left p → drops_of d ≡ 0 → Goes ks who s p (ends s a d)
-  ended e l z = record {
+  ended : {p : Place} {a : Answer} {d : Option Change} → effects d ≤ left p → drops_maybe d ≡ 0 → Goes ks who s p (ends s a d)
+  ended l z = record {
     source = inl refl;
     kind = λ k f h. refl;
-    over = λ h. rw e;
+    over = λ h. refl;
     fewer = λ h i. omega arith;
     onto = λ h. refl;
     sole = λ h. z;
   }
 
   -- on at another place with the same source
-  went : {p n : Place} {d : Change} → is_idle n ≡ false → source_of who n ≡ source_of who p
+  went : {p n : Place} {d : Option Change} → is_idle n ≡ false → source_of who n ≡ source_of who p
       → (s.kind ≡ ks who → s.from ≡ ks (source_of who p) → has_place (ks who) (ks (source_of who p)) p ≡ true → has_place (ks who)
       (ks (source_of who n)) n ≡ true)
-      → effects d + left n ≤ left p → drops_at n ≡ false → drops_of d ≡ 0 → Goes ks who s p (on s n d)
+      → effects d + left n ≤ left p → drops_at n ≡ false → drops_maybe d ≡ 0 → Goes ks who s p (on s n d)
   went i e k l f z = record { source = inr e; kind = k; over = λ h. i; fewer = λ h j. l; onto = λ h. f; sole = λ h. z }
 
   to_filled : (f : OwnerCall) (p : Place) → source_of who p ≡ who → left_to_fill f ≤ left p → (word pops tail head : ℕ)
       → Goes ks who s p (filled w s f word pops tail head)
   to_filled (OwnerCall.Push t) p e l word pops tail head =
-      pick_if (Goes ks who s p) (ltb (s.capacity - 1) (minus w tail head)) (λ h. ended refl (omega arith) refl)
+      pick_if (Goes ks who s p) (ltb (s.capacity - 1) (minus w tail head)) (λ h. ended (omega arith) refl)
       (λ h. went refl (sym e) (λ k f i. refl) (omega arith) refl refl)
   to_filled OwnerCall.Extend p e l word pops tail head =
-      pick_if (λ (o : OwnPlace). Goes ks who s p (on s (Place.Own o) Change.None)) (eqb tail (plus w head s.capacity))
+      pick_if (λ (o : OwnPlace). Goes ks who s p (on s (Place.Own o) None)) (eqb tail (plus w head s.capacity))
       (λ h. went refl (sym e) (λ k f i. refl) (omega arith) refl refl)
       (λ h. went refl (sym e) (λ k f i. refl) (omega arith) refl refl)
-  to_filled OwnerCall.Spare p e l word pops tail head = ended refl (omega arith) refl
+  to_filled OwnerCall.Spare p e l word pops tail head = ended (omega arith) refl
 
   to_booking : (p : Place) (g : BookingCall) → booking_source who g ≡ source_of who p → left_to_book g ≤ left p
-      → Goes ks who s p (on s (Place.Book g (booking s.from)) Change.None)
+      → Goes ks who s p (on s (Place.Book g (booking s.from)) None)
   to_booking p g e l =
       went refl e
       (λ k f h. ap (λ (q : ℕ). is_kind (ks q) (book_kind (booking s.from))) e ∙ rw f (booking_kind (ks (source_of who p))))
@@ -111,7 +103,7 @@ module _ (ks : ℕ → Kind) (who w : ℕ) (s : Context) where
   to_pop : (p : ℕ) (n : LifoPlace) (tail : ℕ) → source_of who (Place.Lifo n) ≡ who → 1 ≤ left_at_lifo n
       → Goes ks who s (Place.Lifo n) (pop_test w s p tail)
   to_pop p n tail e l =
-      pick_if (Goes ks who s (Place.Lifo n)) (eqb tail (low w p)) (λ h. ended refl (omega arith) refl)
+      pick_if (Goes ks who s (Place.Lifo n)) (eqb tail (low w p)) (λ h. ended (omega arith) refl)
       (λ h. went refl (sym e) (λ k f i. i) (omega arith) refl refl)
 
   from_lifo : (p : LifoPlace) (x : Seen) → Goes ks who s (Place.Lifo p) ((lifo_row w s p).after x)
@@ -130,8 +122,7 @@ module _ (ks : ℕ → Kind) (who w : ℕ) (s : Context) where
       (λ h. to_pop x.packed (LifoPlace.PopCas p t) t refl (omega arith))
   from_lifo LifoPlace.EmptyPushes x = went refl refl (λ k f h. h) (omega arith) refl refl
   from_lifo (LifoPlace.EmptyPacked n) x =
-      ended
-      (yes_or_no (eqb (tail_of w n x.packed) (low w x.packed))) (omega arith) refl
+      ended (omega arith) refl
 
   from_fifo : (p : FifoPlace) (x : Seen) → Goes ks who s (Place.Fifo p) ((fifo_row w s p).after x)
   from_fifo (FifoPlace.LoadPacked i) x = went refl refl (λ k f h. h) (omega arith) refl refl
@@ -142,22 +133,22 @@ module _ (ks : ℕ → Kind) (who w : ℕ) (s : Context) where
       (BookingCall.Transfer e (record { word = t; tail = t; room = minus w s.capacity (minus w t (low w x.packed)) })) refl (omega arith)
   from_fifo FifoPlace.PopPacked x = went refl refl (λ k f h. h) (omega arith) refl refl
   from_fifo (FifoPlace.PopTail p) x =
-      pick_if (Goes ks who s (Place.Fifo (FifoPlace.PopTail p))) (eqb x.word (high w p)) (λ h. ended refl (omega arith) refl)
+      pick_if (Goes ks who s (Place.Fifo (FifoPlace.PopTail p))) (eqb x.word (high w p)) (λ h. ended (omega arith) refl)
       (λ h. went refl refl (λ k f i. i) (omega arith) refl refl)
   from_fifo (FifoPlace.PopCas p) x =
       pick_if (Goes ks who s (Place.Fifo (FifoPlace.PopCas p))) x.stored
       (λ h. went refl refl (λ k f i. refl) (omega arith) refl refl)
       (λ h. went refl refl (λ k f i. i) (omega arith) refl refl)
   from_fifo FifoPlace.EmptyPacked x = went refl refl (λ k f h. h) (omega arith) refl refl
-  from_fifo (FifoPlace.EmptyTail p) x = ended (yes_or_no (eqb x.word (high w p))) (omega arith) refl
+  from_fifo (FifoPlace.EmptyTail p) x = ended (omega arith) refl
 
   from_own : (p : OwnPlace) (x : Seen) → Goes ks who s (Place.Own p) ((own_row w s p).after x)
   from_own (OwnPlace.PushWrite t word tail) x = went refl refl (λ k f h. h) (omega arith) refl refl
-  from_own (OwnPlace.PushStore word) x = ended refl (omega arith) refl
+  from_own (OwnPlace.PushStore word) x = ended (omega arith) refl
   from_own (OwnPlace.ExtendMore pops tail limit j) x = more s.mark
     where
       wished : {o : OwnPlace} {t : ℕ} → drops_at (Place.Own o) ≡ false
-          → Goes ks who s (Place.Own (OwnPlace.ExtendMore pops tail limit j)) (on s (Place.Own o) (Change.Offered t))
+          → Goes ks who s (Place.Own (OwnPlace.ExtendMore pops tail limit j)) (on s (Place.Own o) (Some (Change.Offered t)))
       wished d = record {
         source = inr refl;
         kind = λ k f i. refl;
@@ -169,23 +160,25 @@ module _ (ks : ℕ → Kind) (who w : ℕ) (s : Context) where
 
       more : (m : Mark) → Goes ks who s (Place.Own (OwnPlace.ExtendMore pops tail limit j)) ((extend_row w s m pops tail limit j).after x)
       more (Mark.Carry t) =
-          pick_if (λ (o : OwnPlace). Goes ks who s (Place.Own (OwnPlace.ExtendMore pops tail limit j)) (on s (Place.Own o) (Change.Offered t)))
+          pick_if
+          (λ (o : OwnPlace). Goes ks who s (Place.Own (OwnPlace.ExtendMore pops tail limit j))
+          (on s (Place.Own o) (Some (Change.Offered t))))
           (eqb (plus w tail 1) limit)
           (λ h. wished refl) (λ h. wished refl)
       more Mark.End = went refl refl (λ k f h. h) (omega arith) refl refl
       more Mark.Plain = went refl refl (λ k f h. h) (omega arith) refl refl
       more Mark.Weak = went refl refl (λ k f h. h) (omega arith) refl refl
-  from_own (OwnPlace.ExtendStore pops tail j) x = ended refl (omega arith) refl
-  from_own (OwnPlace.PopRead at) x = ended refl (omega arith) refl
+  from_own (OwnPlace.ExtendStore pops tail j) x = ended (omega arith) refl
+  from_own (OwnPlace.PopRead at) x = ended (omega arith) refl
   from_own OwnPlace.NextItem x =
       pick_if (λ (r : Row). Goes ks who s (Place.Own OwnPlace.NextItem) (r.after x)) (eqb s.drain.at s.drain.end)
-      (λ h. ended refl (omega arith) refl) (λ h. one (eqb (plus w s.drain.at 1) s.drain.end))
+      (λ h. ended (omega arith) refl) (λ h. one (eqb (plus w s.drain.at 1) s.drain.end))
     where
       one : (t : Bool) → Goes ks who s (Place.Own OwnPlace.NextItem) (record {
         place = pick t (Place.Close (ClosingCall.Next x.token) (closing s.kind s.drain.end)) Place.Idle;
         drain = record { at = plus w s.drain.at 1; end = s.drain.end };
-        answer = pick t Answer.Pending (Answer.Item x.token);
-        change = Change.Drained;
+        answer = pick t None (Some (Answer.Item x.token));
+        change = Some Change.Drained;
       })
       one true =
           record {
@@ -207,13 +200,13 @@ module _ (ks : ℕ → Kind) (who w : ℕ) (s : Context) where
           }
   from_own OwnPlace.DropItem x =
       pick_if (λ (r : Row). Goes ks who s (Place.Own OwnPlace.DropItem) (r.after x)) (eqb s.drain.at s.drain.end)
-      (λ h. ended refl (omega arith) refl) (λ h. one (eqb (plus w s.drain.at 1) s.drain.end))
+      (λ h. ended (omega arith) refl) (λ h. one (eqb (plus w s.drain.at 1) s.drain.end))
     where
       one : (t : Bool) → Goes ks who s (Place.Own OwnPlace.DropItem) (record {
         place = pick t (Place.Close ClosingCall.Drop (closing s.kind s.drain.end)) (Place.Own OwnPlace.DropItem);
         drain = record { at = plus w s.drain.at 1; end = s.drain.end };
-        answer = Answer.Pending;
-        change = Change.Dropped 1;
+        answer = None;
+        change = Some (Change.Dropped 1);
       })
       one true =
           record {
@@ -238,9 +231,9 @@ module _ (ks : ℕ → Kind) (who w : ℕ) (s : Context) where
   to_counted : (g : BookingCall) (b : BookPlace) (n : ℕ) (cas : ℕ → BookPlace) → ((k : ℕ) → book_kind (cas k) ≡ book_kind b)
       → Goes ks who s (Place.Book g b) (counted w s g n cas)
   to_counted g b n cas e =
-      pick_if (Goes ks who s (Place.Book g b)) (eqb n 0) (λ h. ended refl (omega arith) refl)
+      pick_if (Goes ks who s (Place.Book g b)) (eqb n 0) (λ h. ended (omega arith) refl)
       (λ h. pick_if (Goes ks who s (Place.Book g b)) (eqb (least_of (ruled (rule_of g) s.mark n) (limit_of w g) n) 0)
-      (λ i. ended refl (omega arith) refl)
+      (λ i. ended (omega arith) refl)
       (λ i. went refl refl (λ k f j. rw e j) (omega arith) refl refl))
 
   to_booked : (g : BookingCall) (b : BookPlace) (head k : ℕ) → Goes ks who s (Place.Book g b) (booked w s g head k)
@@ -250,10 +243,10 @@ module _ (ks : ℕ → Kind) (who w : ℕ) (s : Context) where
 
   -- busy, or on at another booking place of the kind
   to_tested : (g : BookingCall) (b c : BookPlace) (t : Bool) → book_kind c ≡ book_kind b
-      → Goes ks who s (Place.Book g b) (pick t (on s (Place.Book g c) Change.None) (ends s Answer.Busy Change.None))
+      → Goes ks who s (Place.Book g b) (pick t (on s (Place.Book g c) None) (ends s Answer.Busy None))
   to_tested g b c t e =
       pick_if (Goes ks who s (Place.Book g b)) t (λ h. went refl refl (λ k f i. rw e i) (omega arith) refl refl)
-      (λ h. ended refl (omega arith) refl)
+      (λ h. ended (omega arith) refl)
 
   from_book : (g : BookingCall) (p : BookPlace) (x : Seen) → Goes ks who s (Place.Book g p) ((book_row w s g p).after x)
   from_book g BookPlace.LifoPacked x = went refl refl (λ k f h. h) (omega arith) refl refl
@@ -272,35 +265,33 @@ module _ (ks : ℕ → Kind) (who w : ℕ) (s : Context) where
   ending_source Transfer.Steal t last = refl
   ending_source Transfer.Take t last = refl
 
-  landed_some : (h : Transfer) (t : BookedTokens) → effects (landed w h t) ≡ 1
-  landed_some Transfer.Steal t = refl
-  landed_some Transfer.Take t = refl
-
   landed_drops : (h : Transfer) (t : BookedTokens) → drops_of (landed w h t) ≡ 0
   landed_drops Transfer.Steal t = refl
   landed_drops Transfer.Take t = refl
 
   from_move : (p : MovePlace) (x : Seen) → Goes ks who s (Place.Move p) ((move_row w s p).after x)
   from_move (MovePlace.ReadSlot t j) x =
-      pick_if (λ (n : MovePlace). Goes ks who s (Place.Move (MovePlace.ReadSlot t j)) (on s (Place.Move n) Change.None)) (last_read w t.transfer t j)
+      pick_if (λ (n : MovePlace). Goes ks who s (Place.Move (MovePlace.ReadSlot t j)) (on s (Place.Move n) None))
+      (last_read w t.transfer t j)
       (λ h. went refl refl (λ k f i. i) (omega arith) refl refl)
       (λ h. went refl refl (λ k f i. i) (omega arith) refl refl)
   from_move (MovePlace.WriteSlot t j token) x =
-      pick_if (λ (n : MovePlace). Goes ks who s (Place.Move (MovePlace.WriteSlot t j token)) (on s (Place.Move n) Change.None)) (last_written w t.transfer t j)
+      pick_if (λ (n : MovePlace). Goes ks who s (Place.Move (MovePlace.WriteSlot t j token)) (on s (Place.Move n) None))
+      (last_written w t.transfer t j)
       (λ h. went refl refl (λ k f i. i) (omega arith) refl refl)
       (λ h. went refl refl (λ k f i. i) (omega arith) refl refl)
   from_move (MovePlace.Land t last) x =
       went
       refl (ending_source t.transfer t last)
       (λ k f h. ap (λ (q : ℕ). is_kind (ks q) (close_kind (closing s.from (plus w t.from t.count)))) (ending_source t.transfer t last)
-      ∙ rw f (closing_kind (ks t.source) (plus w t.from t.count))) (omega (arith, landed_some t.transfer t)) refl
+      ∙ rw f (closing_kind (ks t.source) (plus w t.from t.count))) (omega arith) refl
       (landed_drops t.transfer t)
 
   from_close : (e : ClosingCall) (p : ClosePlace) (x : Seen) → Goes ks who s (Place.Close e p) ((close_row w s e p).after x)
-  from_close e (ClosePlace.StoreCompleted head) x = ended (answered e) (omega arith) refl
+  from_close e (ClosePlace.StoreCompleted head) x = ended (omega arith) refl
   from_close e ClosePlace.LoadHeads x = went refl refl (λ k f h. h) (omega arith) refl refl
   from_close e (ClosePlace.CasHeads p) x =
-      pick_if (Goes ks who s (Place.Close e (ClosePlace.CasHeads p))) x.stored (λ h. ended (answered e) (omega arith) refl)
+      pick_if (Goes ks who s (Place.Close e (ClosePlace.CasHeads p))) x.stored (λ h. ended (omega arith) refl)
       (λ h. went refl refl (λ k f i. i) (omega arith) refl refl)
 
   -- every row

@@ -7,9 +7,9 @@ use native.Mathlib.Omega.{arith}
 use borrow.Author.Tests.{ltb-true, lt-ltb, eqb-true, eqb-false, leb-true}
 use lib.Dec.{ltb, leb, eqb}
 use lib.ListN.{length}
-use Rattle.tables.specs.declared.state.Opened.{Opened}
+use Rattle.std.specs.Prelude.{None}
+use Rattle.tables.specs.Step.{Opening}
 use Rattle.words.specs.Word.{pick}
-use Rattle.tables.specs.declared.answer.Answer.TheVariants as Answer
 use Rattle.tables.specs.declared.call.Call.{Call}
 use Rattle.tables.specs.declared.call.Mark.{Mark}
 use Rattle.tables.specs.declared.state.Kind.{Kind}
@@ -17,7 +17,6 @@ use Rattle.tables.specs.declared.state.Machine.{Machine}
 use Rattle.tables.specs.Machine.{base_of}
 use Rattle.tables.specs.Access.{is_cas}
 use Rattle.tables.specs.Tables.{is_idle, wish_of, mark_fits, call_source}
-use Rattle.tables.specs.Effect.{no_effect}
 use Rattle.tables.specs.Step.{andb, Outcome, refused, sound, tables, closed_queues, open_queues, over_to, open_refusal, opening, begun, begin_refusal}
 use Rattle.tables.specs.Step.{begin, place_at, row_at, taken, step_refusal, step, Alone, runs, still, alone_refusal, alone}
 use Rattle.tables.proofs.Bools.{pick_if, pick_yes, pick_no, and_left, and_right}
@@ -36,8 +35,8 @@ zero_else false k x p e = (refl, e)
 pub record Unchanged (m : Machine) (xs : List ℕ) (o : Outcome) : Type 0 where
   pub machine : o.machine ≡ m
   pub items : o.items ≡ xs
-  pub answer : o.answer ≡ Answer.Pending
-  pub effect : o.effect ≡ no_effect
+  pub answer : o.answer ≡ None
+  pub effect : o.effect ≡ None
 
 pub unchanged : (m : Machine) (xs : List ℕ) (k : ℕ) → Unchanged m xs (refused m xs k)
 unchanged m xs k = record { machine = refl; items = refl; answer = refl; effect = refl }
@@ -70,7 +69,7 @@ module _ (w most : ℕ) (m : Machine) (who : ℕ) (c : Call) where
 
   module _ (xs : List ℕ) where
     abbrev pub began : Outcome
-    began = record { machine = begun m who c; items = xs; answer = Answer.Pending; effect = no_effect; refusal = 0 }
+    began = record { machine = begun m who c; items = xs; answer = None; effect = None; refusal = 0 }
 
     pub begin_if : (P : Outcome → Type 0) → (begin_refusal w most m (length xs) who c ≡ 0 → P began)
         → ((begin_refusal w most m (length xs) who c ≡ 0 → ⊥) → P (refused m xs (begin_refusal w most m (length xs) who c)))
@@ -164,7 +163,7 @@ module _ (w most : ℕ) (m : Machine) (who : ℕ) where
 pub record Standing (m : Machine) (xs : List ℕ) (r : Alone) : Type 0 where
   pub machine : r.machine ≡ m
   pub items : r.items ≡ xs
-  pub answer : r.answer ≡ Answer.Pending
+  pub answer : r.answer ≡ None
   pub effects : r.effects ≡ []
   pub steps : r.steps ≡ 0
 
@@ -190,7 +189,7 @@ module _ (w most : ℕ) (ks : List Kind) (n : ℕ) (rs ps : List ℕ) (lent : �
         fits = leb-true _ _ d.0;
       }
 
-  pub opening_if : (P : Opened → Type 0)
+  pub opening_if : (P : Opening → Type 0)
       → (open_refusal w most ks n rs ps lent ≡ 0 → P (record { machine = tables most n (open_queues w most ks n rs ps); refusal = 0 }))
       → ((open_refusal w most ks n rs ps lent ≡ 0 → ⊥) → P
       (record { machine = tables most 0 (closed_queues most ks); refusal = open_refusal w most ks n rs ps lent }))
@@ -199,17 +198,17 @@ module _ (w most : ℕ) (ks : List Kind) (n : ℕ) (rs ps : List ℕ) (lent : �
   opening_if P f g = pick_if P (eqb (open_refusal w most ks n rs ps lent) 0) (λ h. f (eqb-true _ _ h)) (λ h. g (eqb-false _ _ h))
 
   pub opening_refusal : (opening w most ks n rs ps lent).refusal ≡ open_refusal w most ks n rs ps lent
-  opening_refusal = opening_if (λ (o : Opened). o.refusal ≡ open_refusal w most ks n rs ps lent) (λ e. sym e) (λ e. refl)
+  opening_refusal = opening_if (λ (o : Opening). o.refusal ≡ open_refusal w most ks n rs ps lent) (λ e. sym e) (λ e. refl)
 
   -- refused: 0 parties, the kinds asked, all else idle or 0
   pub opening_refused : ((opening w most ks n rs ps lent).refusal ≡ 0 → ⊥)
       → (opening w most ks n rs ps lent).machine ≡ tables most 0 (closed_queues most ks)
   opening_refused =
-      opening_if (λ (o : Opened). (o.refusal ≡ 0 → ⊥) → o.machine ≡ tables most 0 (closed_queues most ks)) (λ e n. absurd (n refl))
+      opening_if (λ (o : Opening). (o.refusal ≡ 0 → ⊥) → o.machine ≡ tables most 0 (closed_queues most ks)) (λ e n. absurd (n refl))
       (λ e n. refl)
 
   pub opening_taken : (opening w most ks n rs ps lent).refusal ≡ 0
       → (opening w most ks n rs ps lent).machine ≡ tables most n (open_queues w most ks n rs ps)
   opening_taken =
-      opening_if (λ (o : Opened). o.refusal ≡ 0 → o.machine ≡ tables most n (open_queues w most ks n rs ps)) (λ e h. refl)
+      opening_if (λ (o : Opening). o.refusal ≡ 0 → o.machine ≡ tables most n (open_queues w most ks n rs ps)) (λ e h. refl)
       (λ n h. absurd (n h))

@@ -1,7 +1,7 @@
 -- Schedules as lists, for the bench: from a fresh machine, the lines of a run and what it comes to.
 use Prim.Native.Nat.{ℕ, zero, suc}
 use mathlib.Core.List.{List, [], ◌∷◌, ◌++◌}
-use Rattle.words.specs.Word.{pick}
+use Rattle.std.specs.Prelude.{Option, Some, None}
 use Rattle.tables.specs.declared.answer.Answer.{Answer}
 use Rattle.tables.specs.declared.answer.Change.{Change}
 use Rattle.tables.specs.declared.answer.Effect.{Effect}
@@ -11,8 +11,6 @@ use Rattle.tables.specs.declared.state.Kind.{Kind}
 use Rattle.tables.specs.declared.state.Machine.{Machine}
 use Rattle.tables.specs.declared.place.BookPlace.{BookPlace}
 use Rattle.tables.specs.declared.place.Place.{Place}
-use Rattle.tables.specs.Answer.{is_pending}
-use Rattle.tables.specs.Effect.{is_none}
 use Rattle.tables.specs.Step.{Outcome, Alone, opening, begin, step, alone}
 
 -- a line of a schedule: begin a call; that many plain steps; run alone, up to 20 steps; a call begun and run alone
@@ -29,11 +27,13 @@ pub record Run : Type 0 where
   pub answers : List Answer
   pub changes : List Change
 
-abbrev pub answered : List Answer → Answer → List Answer
-answered l r = pick (is_pending r) l (l ++ (r ∷ []))
+abbrev pub answered : List Answer → Option Answer → List Answer
+answered l None = l
+answered l (Some r) = l ++ (r ∷ [])
 
-abbrev pub doing : List Change → Effect → List Change
-doing l e = pick (is_none e.change) l (l ++ (e.change ∷ []))
+abbrev pub doing : List Change → Option Effect → List Change
+doing l None = l
+doing l (Some e) = l ++ (e.change ∷ [])
 
 unfoldable pub changes_of : List Effect → List Change
 changes_of [] = []

@@ -1,8 +1,8 @@
 -- Document 01, "Causes", and demand 3's premise: what is noted along a run from the lists alone, and what each answer leans on.
-use Rattle.std.specs.Prelude.{ℕ, ◌+◌, ◌-◌, ◌^◌, ◌<◌, ◌≡◌, ◌≢◌, ◌⊎◌, Bool, true, false, [], length}
+use Rattle.std.specs.Prelude.{ℕ, ◌+◌, ◌-◌, ◌^◌, ◌<◌, ◌≡◌, ◌≢◌, ◌⊎◌, Bool, true, false, [], length, Option, Some, None}
 use Rattle.words.specs.Word.{pick, orb, minus, high}
 use Rattle.tables.specs.declared.answer.Answer.{Answer}
-use Rattle.tables.specs.declared.answer.Change.{Change}
+use Rattle.tables.specs.declared.answer.Effect.{Effect}
 use Rattle.tables.specs.declared.call.Mark.{Mark}
 use Rattle.tables.specs.declared.state.Machine.{Machine}
 use Rattle.tables.specs.declared.state.Queue.{Queue}
@@ -14,7 +14,7 @@ use Rattle.tables.specs.declared.place.Place.{Place}
 use Rattle.tables.specs.declared.place.Transfer.{Transfer}
 use Rattle.tables.specs.Rule.{ruled}
 use Rattle.tables.specs.Machine.{queue_at}
-use Rattle.tables.specs.Answer.{Reason, nothing, none_rested, none_free, one_open, none_to_book, answer_row}
+use Rattle.tables.specs.Answer.{Reason, nothing, none_rested, none_free, one_open, none_to_book, reason_of}
 use Rattle.tables.specs.Effect.{moves_of}
 use Rattle.tables.specs.Table.{rule_of}
 use Rattle.tables.specs.LifoTable.{rest_of}
@@ -106,10 +106,15 @@ is_head_load (Place.Close e p) = false
 abbrev pub fill_of : Lists → ℕ
 fill_of l = length l.resting + l.kept
 
--- Noted at a step of party `who` that the machine m takes: the lists before and after it, the queue and the change of its effect.
-unfoldable pub notes : Machine → ℕ → (before after : Plain) → (queue : ℕ) → Change → Notes → Notes
-notes m who a a' q d n = record {
-  moved = update n.moved q (n.moved q + moves_of d);
+-- what an effect pops or books counts at its queue
+abbrev pub moved_by : Option Effect → (ℕ → ℕ) → ℕ → ℕ
+moved_by None moved = moved
+moved_by (Some e) moved = update moved e.queue (moved e.queue + moves_of e.change)
+
+-- Noted at a step of party `who` that the machine m takes: the lists before and after it, and its effect.
+unfoldable pub notes : Machine → ℕ → (before after : Plain) → Option Effect → Notes → Notes
+notes m who a a' e n = record {
+  moved = moved_by e n.moved;
   first = pick (is_first_load (place_at m who)) (update n.first who (n.moved (source_at m who))) n.first;
   opened =
       λ p.
@@ -158,5 +163,5 @@ CauseOf w m who mark a n none_to_book =
     ((a.queue (source_at m who)).resting ≡ []) ⊎ (NoRoom (place_at m who) (n.fill who) (queue_at m who).capacity
     ⊎ RuleGaveZero w (place_at m who) (queue_at m (source_at m who)) mark)
 
-abbrev pub Cause : ℕ → Machine → ℕ → Mark → Plain → Notes → Answer → Type 0
-Cause w m who mark a n answer = CauseOf w m who mark a n (answer_row answer).reason
+abbrev pub Cause : ℕ → Machine → ℕ → Mark → Plain → Notes → Option Answer → Type 0
+Cause w m who mark a n answer = CauseOf w m who mark a n (reason_of answer)

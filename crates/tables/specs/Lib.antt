@@ -1,3 +1,4 @@
+pub mod Refusal
 pub mod Rule
 pub mod Answer
 pub mod Effect

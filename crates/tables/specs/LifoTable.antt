@@ -1,5 +1,5 @@
 -- Document 01's LIFO tables, where LIFO differs: the loads, pop, empty, booking, closing.
-use Rattle.std.specs.Prelude.{ℕ, eqb}
+use Rattle.std.specs.Prelude.{ℕ, eqb, Some, None}
 use Rattle.words.specs.Word.{pick, plus, minus, packed, high, low, position}
 use Rattle.tables.specs.declared.access.Access.TheVariants as Access
 use Rattle.tables.specs.declared.access.Context.{Context}
@@ -26,37 +26,38 @@ lifo_loaded w s (RoomCall.Transfer e) n p head = brought w s e n (tail_of w n p)
 
 -- none if tail = head, else the CAS
 abbrev pub pop_test : ℕ → Context → (packed tail : ℕ) → Next
-pop_test w s p tail = pick (eqb tail (low w p)) (ends s Answer.None Change.None) (on s (Place.Lifo (LifoPlace.PopCas p tail)) Change.None)
+pop_test w s p tail = pick (eqb tail (low w p)) (ends s Answer.None None) (on s (Place.Lifo (LifoPlace.PopCas p tail)) None)
 
 -- after a failed CAS take the new head, keep tail, test for none in that same step
 abbrev pub lifo_popped : ℕ → Context → (tail : ℕ) → Seen → Next
-lifo_popped w s tail x = pick x.stored (on s (Place.Own (OwnPlace.PopRead (position (minus w tail 1)))) Change.Popped) (pop_test w s x.packed tail)
+lifo_popped w s tail x =
+    pick x.stored (on s (Place.Own (OwnPlace.PopRead (position (minus w tail 1)))) (Some Change.Popped)) (pop_test w s x.packed tail)
 
 -- yes if tail = booked head
 abbrev pub lifo_empty : ℕ → Context → (count packed : ℕ) → Next
-lifo_empty w s n p = ends s (pick (eqb (tail_of w n p) (low w p)) Answer.Yes Answer.No) Change.None
+lifo_empty w s n p = ends s (pick (eqb (tail_of w n p) (low w p)) Answer.Yes Answer.No) None
 
 abbrev pub lifo_row : ℕ → Context → LifoPlace → Row
-lifo_row w s (LifoPlace.LoadPushes j) = own Access.LoadPushes then λ x. on s (Place.Lifo (LifoPlace.LoadPacked j x.word)) Change.None
-lifo_row w s (LifoPlace.LoadPacked j n) = own Access.LoadPacked then λ x. on s (Place.Lifo (LifoPlace.LoadCompleted j n x.packed)) Change.None
+lifo_row w s (LifoPlace.LoadPushes j) = own Access.LoadPushes then λ x. on s (Place.Lifo (LifoPlace.LoadPacked j x.word)) None
+lifo_row w s (LifoPlace.LoadPacked j n) = own Access.LoadPacked then λ x. on s (Place.Lifo (LifoPlace.LoadCompleted j n x.packed)) None
 lifo_row w s (LifoPlace.LoadCompleted j n p) = own Access.LoadCompleted then λ x. lifo_loaded w s j n p x.word
-lifo_row w s LifoPlace.PopPacked = own Access.LoadPacked then λ x. on s (Place.Lifo (LifoPlace.PopPushes x.packed)) Change.None
+lifo_row w s LifoPlace.PopPacked = own Access.LoadPacked then λ x. on s (Place.Lifo (LifoPlace.PopPushes x.packed)) None
 lifo_row w s (LifoPlace.PopPushes p) = own Access.LoadPushes then λ x. pop_test w s p (tail_of w x.word p)
 lifo_row w s (LifoPlace.PopCas p tail) =
     own Access.Cas p (packed w (plus w (high w p) 1) (low w p)) then λ x. lifo_popped w s tail x
-lifo_row w s LifoPlace.EmptyPushes = own Access.LoadPushes then λ x. on s (Place.Lifo (LifoPlace.EmptyPacked x.word)) Change.None
+lifo_row w s LifoPlace.EmptyPushes = own Access.LoadPushes then λ x. on s (Place.Lifo (LifoPlace.EmptyPacked x.word)) None
 lifo_row w s (LifoPlace.EmptyPacked n) = own Access.LoadPacked then λ x. lifo_empty w s n x.packed
 
 -- busy if the completed head differs from the booked head
 abbrev pub completed_test : ℕ → Context → BookingCall → (packed done : ℕ) → Next
-completed_test w s g p d = pick (eqb d (low w p)) (on s (Place.Book g (BookPlace.LifoPushes p d)) Change.None) (ends s Answer.Busy Change.None)
+completed_test w s g p d = pick (eqb d (low w p)) (on s (Place.Book g (BookPlace.LifoPushes p d)) None) (ends s Answer.Busy None)
 
 -- n = tail - head
 abbrev pub rest_of : ℕ → (count packed : ℕ) → ℕ
 rest_of w n p = minus w (tail_of w n p) (low w p)
 
 abbrev pub lifo_packed_row : Context → BookingCall → Row
-lifo_packed_row s g = source Access.LoadPacked then λ x. on s (Place.Book g (BookPlace.LifoCompleted x.packed)) Change.None
+lifo_packed_row s g = source Access.LoadPacked then λ x. on s (Place.Book g (BookPlace.LifoCompleted x.packed)) None
 
 abbrev pub lifo_completed_row : ℕ → Context → BookingCall → (packed : ℕ) → Row
 lifo_completed_row w s g p = source Access.LoadCompleted then λ x. completed_test w s g p x.word

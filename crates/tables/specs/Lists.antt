@@ -116,7 +116,6 @@ lands a p q n leaving =
 
 -- by the kind of each queue, the party and the queue that the effect names
 unfoldable pub does : (ℕ → Kind) → (party queue : ℕ) → Change → Plain → Plain
-does ks p q Change.None a = a
 does ks p q (Change.Offered t) a = on_queue a q (offer t (a.queue q))
 does ks p q Change.Accepted a = on_queue a q (accept (a.queue q))
 does ks p q Change.Popped a = in_hand (on_queue a q (pop (ks q) (a.queue q))) p (pop_from (ks q) (a.queue q).resting ∷ [])
@@ -134,7 +133,6 @@ is_nil (t ∷ ts) = false
 -- What the lists can do: an owner offers, accepts and pops what is there; booking takes what rests where none is open; only the
 -- holder moves booked tokens, which are there, and closes when none is left.
 unfoldable pub can : (party queue : ℕ) → Change → Lists → Bool
-can p q Change.None l = true
 can p q (Change.Offered t) l = eqb p q
 can p q Change.Accepted l = eqb p q
 can p q Change.Popped l = andb (eqb p q) (not (is_nil l.resting))

@@ -1,4 +1,5 @@
 -- The form of the access tables: a row for each place says whose queue, which access, and then what is done with what was seen.
+use Rattle.std.specs.Prelude.{Option, Some, None}
 use Rattle.tables.specs.declared.access.Access.{Access}
 use Rattle.tables.specs.declared.access.Context.{Context}
 use Rattle.tables.specs.declared.access.Next.{Next}
@@ -26,9 +27,9 @@ own a then f = record { whose = Whose.Own; access = a; after = f }
 abbrev pub source◌then◌ : Access → (Seen → Next) → Row
 source a then f = record { whose = Whose.Source; access = a; after = f }
 
--- the call goes on at a place, or ends with an answer; the drain stays as it is
-abbrev pub on : Context → Place → Change → Next
-on s p e = record { place = p; drain = s.drain; answer = Answer.Pending; change = e }
+-- the call goes on at a place, or ends with an answer, each with an effect or none; the drain stays as it is
+abbrev pub on : Context → Place → Option Change → Next
+on s p e = record { place = p; drain = s.drain; answer = None; change = e }
 
-abbrev pub ends : Context → Answer → Change → Next
-ends s a e = record { place = Place.Idle; drain = s.drain; answer = a; change = e }
+abbrev pub ends : Context → Answer → Option Change → Next
+ends s a e = record { place = Place.Idle; drain = s.drain; answer = Some a; change = e }

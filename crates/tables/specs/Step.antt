@@ -1,6 +1,6 @@
 -- Opening, begin, step and run alone, each on any record, any items and any argument; document 01's refusal numbers in their orders.
 -- w is the width, `most` the party limit.
-use Rattle.std.specs.Prelude.{ℕ, zero, suc, ◌+◌, ◌-◌, ◌^◌, Bool, true, false, not, List, [], ◌∷◌, length, get_or, set, ltb, leb, eqb}
+use Rattle.std.specs.Prelude.{ℕ, zero, suc, ◌+◌, ◌-◌, ◌^◌, Bool, true, false, not, List, [], ◌∷◌, length, get_or, set, ltb, leb, eqb, Option, Some, None, Result}
 use Rattle.tables.specs.declared.access.Access.{Access}
 use Rattle.words.specs.Word.{pick, orb, pow_below, packed, capacity_of}
 use Rattle.tables.specs.declared.access.Context.{Context}
@@ -10,6 +10,7 @@ use Rattle.tables.specs.declared.answer.Answer.{Answer}
 use Rattle.tables.specs.declared.answer.Change.{Change}
 use Rattle.tables.specs.declared.answer.Effect.{Effect}
 use Rattle.tables.specs.declared.answer.Effects.{Effects}
+use Rattle.tables.specs.declared.answer.Refusal.{Refusal}
 use Rattle.tables.specs.declared.answer.Reply.{Reply}
 use Rattle.tables.specs.declared.call.Act.{Act}
 use Rattle.tables.specs.declared.call.Call.{Call}
@@ -24,7 +25,8 @@ use Rattle.tables.specs.declared.place.Place.{Place}
 use Rattle.tables.specs.Machine.{idle_party, zero_queue, party_at, queue_at, base_of, stretch, restretched}
 use Rattle.tables.specs.Access.{Accessed, perform, is_cas}
 use Rattle.tables.specs.Answer.{is_pending}
-use Rattle.tables.specs.Effect.{is_none, drops_of, no_effect, effect_of}
+use Rattle.tables.specs.Effect.{drops_of, effect_of}
+use Rattle.tables.specs.Refusal.{told, named}
 use Rattle.tables.specs.Row.{Row}
 use Rattle.tables.specs.Tables.{row_of, is_idle, source_of, has_place, wish_of, wishes, mark_fits, start, call_source}
 
@@ -32,17 +34,18 @@ abbrev pub andb : Bool → Bool → Bool
 andb true b = b
 andb false b = false
 
--- What a call of the machine returns: the record and the items as they are then, the answer, the effect, the refusal's number or 0.
+-- What a call of the machine returns: the record and the items as they are then, the answer and the effect, if any, the refusal's
+-- number or 0.
 pub record Outcome : Type 0 where
   pub machine : Machine
   pub items : List ℕ
-  pub answer : Answer
-  pub effect : Effect
+  pub answer : Option Answer
+  pub effect : Option Effect
   pub refusal : ℕ
 
--- A refusal returns its number and the record as it came, no effect; no item changes.
+-- A refusal returns its number and the record as it came, no answer, no effect; no item changes.
 abbrev pub refused : Machine → List ℕ → ℕ → Outcome
-refused m xs k = record { machine = m; items = xs; answer = Answer.Pending; effect = no_effect; refusal = k }
+refused m xs k = record { machine = m; items = xs; answer = None; effect = None; refusal = k }
 
 -- ---- refusal 1: the record test, among the record's own parties and queues
 
@@ -105,12 +108,21 @@ open_refusal w most ks n rs ps lent =
     pick (andb (ltb 0 n) (leb n most))
     (pick (over_to w rs n) 7 (pick (leb (base_of n (open_queues w most ks n rs ps)) lent) 0 8)) 1
 
+-- What an opening returns: a machine, and the refusal's number or 0.
+pub record Opening : Type 0 where
+  pub machine : Machine
+  pub refusal : ℕ
+
 -- Opening writes no item. Refused, it returns 0 parties, the kinds asked, all else idle or 0.
-unfoldable pub opening : ℕ → ℕ → List Kind → (parties : ℕ) → (requests positions : List ℕ) → (lent : ℕ) → Opened
+unfoldable pub opening : ℕ → ℕ → List Kind → (parties : ℕ) → (requests positions : List ℕ) → (lent : ℕ) → Opening
 opening w most ks n rs ps lent =
     pick (eqb (open_refusal w most ks n rs ps lent) 0)
     (record { machine = tables most n (open_queues w most ks n rs ps); refusal = 0 })
     (record { machine = tables most 0 (closed_queues most ks); refusal = open_refusal w most ks n rs ps lent })
+
+-- what the code returns of it
+abbrev pub opened_as : Opening → Opened
+opened_as o = record { machine = o.machine; refusal = named o.refusal }
 
 -- ---- begin
 
@@ -130,7 +142,7 @@ begin_refusal w most m lent who c = begin_order (sound w most m lent) m.parties 
 unfoldable pub begin : ℕ → ℕ → Machine → List ℕ → ℕ → Call → Outcome
 begin w most m xs who c =
     pick (eqb (begin_refusal w most m (length xs) who c) 0)
-    (record { machine = begun m who c; items = xs; answer = Answer.Pending; effect = no_effect; refusal = 0 })
+    (record { machine = begun m who c; items = xs; answer = None; effect = None; refusal = 0 })
     (refused m xs (begin_refusal w most m (length xs) who c))
 
 -- ---- step
@@ -215,11 +227,11 @@ step w most m xs who mark =
 
 -- ---- run alone
 
--- One party is stepped: the record and items so far, the answer, the effects, the steps of the table.
+-- One party is stepped: the record and items so far, the answer, if any, the effects, the steps of the table.
 pub record Alone : Type 0 where
   pub machine : Machine
   pub items : List ℕ
-  pub answer : Answer
+  pub answer : Option Answer
   pub effects : List Effect
   pub steps : ℕ
   pub refusal : ℕ
@@ -239,11 +251,12 @@ appended [] e = e ∷ []
 appended (x ∷ []) e = joined x e
 appended (x ∷ y ∷ l) e = x ∷ appended (y ∷ l) e
 
-abbrev pub noted : List Effect → Effect → List Effect
-noted l e = pick (is_none e.change) l (appended l e)
+abbrev pub noted : List Effect → Option Effect → List Effect
+noted l None = l
+noted l (Some e) = appended l e
 
 -- it stops at an answer, or before a step that needs a number or end
-abbrev pub stops_at : Answer → Place → Bool
+abbrev pub stops_at : Option Answer → Place → Bool
 stops_at a p = orb (not (is_pending a)) (wishes (wish_of p))
 
 -- the loop, over whatever is stepped: until it stops, or the budget is spent
@@ -268,7 +281,7 @@ abbrev pub runs : ℕ → ℕ → (budget : ℕ) → Alone → Alone
 runs w who budget r = until (stops who) (λ x. onward x (taken w x.machine x.items who Mark.Plain)) budget r
 
 abbrev pub still : Machine → List ℕ → ℕ → Alone
-still m xs k = record { machine = m; items = xs; answer = Answer.Pending; effects = []; steps = 0; refusal = k }
+still m xs k = record { machine = m; items = xs; answer = None; effects = []; steps = 0; refusal = k }
 
 -- in the order 1, 2, 4
 abbrev pub alone_order : (ok : Bool) → (parties who : ℕ) → Place → ℕ
@@ -285,34 +298,40 @@ alone w most m xs who budget =
 -- ---- begin, step and run alone as one
 
 -- What an act leaves: the machine, the items, and what is said.
-pub record Result : Type 0 where
+pub record AfterAct : Type 0 where
   pub machine : Machine
   pub items : List ℕ
-  pub reply : Reply
+  pub reply : Result Reply Refusal
 
 -- what the code returns, with the items that were lent to it
-abbrev pub result_of : Acted → List ℕ → Result
+abbrev pub result_of : Acted → List ℕ → AfterAct
 result_of r xs = record { machine = r.machine; items = xs; reply = r.reply }
+
+-- the effect at a place of a list, if the list is that long
+abbrev pub effect_at : List Effect → ℕ → Option Effect
+effect_at [] i = None
+effect_at (e ∷ l) zero = Some e
+effect_at (e ∷ l) (suc i) = effect_at l i
 
 -- at most three effects (proofs/Effects.antt, alone_few)
 abbrev pub three_effects : List Effect → Effects
-three_effects l = record { count = length l; list = get_or l 0 no_effect ∷ get_or l 1 no_effect ∷ get_or l 2 no_effect ∷ [] }
+three_effects l = record { count = length l; list = effect_at l 0 ∷ effect_at l 1 ∷ effect_at l 2 ∷ [] }
 
-abbrev pub of_outcome : Outcome → Result
+abbrev pub of_outcome : Outcome → AfterAct
 of_outcome o = record {
   machine = o.machine;
   items = o.items;
-  reply = record { answer = o.answer; effects = three_effects (noted [] o.effect); steps = 0; refusal = o.refusal };
+  reply = told o.refusal (record { answer = o.answer; effects = three_effects (noted [] o.effect); steps = 0 });
 }
 
-abbrev pub of_alone : Alone → Result
+abbrev pub of_alone : Alone → AfterAct
 of_alone r = record {
   machine = r.machine;
   items = r.items;
-  reply = record { answer = r.answer; effects = three_effects r.effects; steps = r.steps; refusal = r.refusal };
+  reply = told r.refusal (record { answer = r.answer; effects = three_effects r.effects; steps = r.steps });
 }
 
-abbrev pub acted : ℕ → ℕ → Machine → List ℕ → ℕ → Act → Result
+abbrev pub acted : ℕ → ℕ → Machine → List ℕ → ℕ → Act → AfterAct
 acted w most m xs who (Act.Begin c) = of_outcome (begin w most m xs who c)
 acted w most m xs who (Act.Step k) = of_outcome (step w most m xs who k)
 acted w most m xs who (Act.Alone n) = of_alone (alone w most m xs who n)

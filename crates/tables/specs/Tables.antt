@@ -1,12 +1,11 @@
 -- The access tables whole: the row of every place, whose source it has, what its step wants.
-use Rattle.std.specs.Prelude.{ℕ, Bool, true, false}
+use Rattle.std.specs.Prelude.{ℕ, Bool, true, false, Some, None}
 use Rattle.words.specs.Word.{pick, packed, high}
 use Rattle.tables.specs.declared.access.Access.TheVariants as Access
 use Rattle.tables.specs.declared.access.Context.{Context}
 use Rattle.tables.specs.declared.access.Next.{Next}
 use Rattle.tables.specs.declared.access.Seen.{Seen}
 use Rattle.tables.specs.declared.access.Wish.{Wish}
-use Rattle.tables.specs.declared.answer.Answer.TheVariants as Answer
 use Rattle.tables.specs.declared.answer.Change.TheVariants as Change
 use Rattle.tables.specs.declared.call.Call.{Call}
 use Rattle.tables.specs.declared.call.Mark.{Mark}
@@ -41,15 +40,15 @@ book_row w s g (BookPlace.FifoCas p k) = fifo_cas_row w s g p k
 
 -- LIFO: store completed head. FIFO: load packed, CAS (worker head, worker head), repeated from the CAS until it succeeds.
 abbrev pub was_closed : Context → ClosingCall → Seen → Next
-was_closed s e x = pick x.stored (ends s (answer_of e) Change.Closed) (on s (Place.Close e (ClosePlace.CasHeads x.packed)) Change.None)
+was_closed s e x = pick x.stored (ends s (answer_of e) (Some Change.Closed)) (on s (Place.Close e (ClosePlace.CasHeads x.packed)) None)
 
 abbrev pub close_row : ℕ → Context → ClosingCall → ClosePlace → Row
-close_row w s e (ClosePlace.StoreCompleted head) = source Access.StoreCompleted head then λ x. ends s (answer_of e) Change.Closed
-close_row w s e ClosePlace.LoadHeads = source Access.LoadPacked then λ x. on s (Place.Close e (ClosePlace.CasHeads x.packed)) Change.None
+close_row w s e (ClosePlace.StoreCompleted head) = source Access.StoreCompleted head then λ x. ends s (answer_of e) (Some Change.Closed)
+close_row w s e ClosePlace.LoadHeads = source Access.LoadPacked then λ x. on s (Place.Close e (ClosePlace.CasHeads x.packed)) None
 close_row w s e (ClosePlace.CasHeads p) = source Access.Cas p (packed w (high w p) (high w p)) then λ x. was_closed s e x
 
 abbrev pub row_of : ℕ → Context → Place → Row
-row_of w s Place.Idle = own Access.Touch then λ x. ends s Answer.Pending Change.None
+row_of w s Place.Idle = own Access.Touch then λ x. on s Place.Idle None
 row_of w s (Place.Lifo p) = lifo_row w s p
 row_of w s (Place.Fifo p) = fifo_row w s p
 row_of w s (Place.Own p) = own_row w s p

@@ -19,7 +19,8 @@ pub enum Access {
     Write(Position, u64),
 }
 
-// What an access shows its party: a word, the packed word, a token; whether a compare-exchange stored.
+// What an access shows its party: a word, the packed word, a token; whether a compare-exchange stored. All are there at every access, 0
+// where it shows none of them, so that a row reads its own without a case for the others (`Row.after`).
 #[derive(Clone, Copy)]
 pub struct Seen {
     pub word: u32,
@@ -29,7 +30,7 @@ pub struct Seen {
 }
 
 // Whose queue a row's access is to: the party's own, or the source.
-#[derive(Clone, Copy)]
+#[derive(Clone, Copy, PartialEq, Eq)]
 pub enum Whose {
     Own,
     Source,
@@ -52,17 +53,17 @@ pub struct Context {
     pub mark: Mark,
 }
 
-// What a row comes to: the next place and drain, the answer, what was done to the lists.
+// What a row comes to: the next place and drain; the answer, if the call ends; what was done to the lists, if anything.
 #[derive(Clone, Copy)]
 pub struct Next {
     pub place: Place,
     pub drain: Drain,
-    pub answer: Answer,
-    pub change: Change,
+    pub answer: Option<Answer>,
+    pub change: Option<Change>,
 }
 
 // What a step wants to be carried: nothing, a number, or a token or end.
-#[derive(Clone, Copy)]
+#[derive(Clone, Copy, PartialEq, Eq)]
 pub enum Wish {
     Nothing,
     Number,

@@ -1,12 +1,12 @@
-// What a machine answers, and what it has done to the plain lists; the columns of the dictionary's rows that code hands on.
-ghost use Rattle.std.specs.Prelude.{◌≡◌, get_or};
+// What a machine answers or refuses, and what it has done to the plain lists; the columns of the dictionary's rows that code hands on.
+ghost use Rattle.std.specs.Prelude.{◌≡◌};
 ghost use Rattle.tables.specs.Answer as Aw;
 ghost use Rattle.tables.specs.Effect as Ef;
+ghost use Rattle.tables.specs.Refusal.{number_of};
 
-// Document 01's answers; `Pending` while the call is under way.
+// Document 01's answers.
 #[derive(Clone, Copy)]
 pub enum Answer {
-    Pending,
     Pushed,
     Full(u64),
     Popped(u64),
@@ -29,7 +29,6 @@ pub enum Answer {
 // for a single step.
 #[derive(Clone, Copy)]
 pub enum Change {
-    None,
     Offered(u64),
     Accepted,
     Popped,
@@ -41,13 +40,33 @@ pub enum Change {
     Closed,
 }
 
-// The values that an answer or an effect names: a token, a count, both in that order, or none.
+// Document 01's refusals, with its numbers. Whatever is refused changes nothing.
+#[derive(Clone, Copy, PartialEq, Eq)]
+pub enum Refusal {
+    Record = 1, // the machine handed in, or asked for, is none
+    Party = 2, // no such party
+    Busy = 3, // the party has a call under way
+    Idle = 4, // the party has none
+    Source = 5, // no such source
+    Mark = 6, // the step does not carry what its place wants
+    Request = 7, // above the largest capacity
+    Items = 8, // too few are lent
+    Line = 9, // malformed or misplaced
+}
+
+impl From<Refusal> for u8 {
+    ghost from_gives = { λ refusal number. number ≡ number_of refusal };
+
+    fn from(refusal: Refusal) -> u8 {
+        refusal as u8
+    }
+}
+
+// The values that an answer or an effect names.
 #[derive(Clone, Copy)]
-pub enum Values {
-    None,
-    Token(u64),
-    Count(u64),
-    Both { token: u64, count: u64 },
+pub struct Values {
+    pub token: Option<u64>,
+    pub count: Option<u64>,
 }
 
 // An effect names its party and queue (landed: the source).
@@ -58,20 +77,20 @@ pub struct Effect {
     pub change: Change,
 }
 
-// A run alone has at most three, dropped ones in a row as one; any other act has one at most.
+// A run alone has at most three, dropped ones in a row as one; any other act has one at most. An array with its count: both are words of
+// the reply that a host in C reads.
 #[derive(Clone, Copy)]
 pub struct Effects {
     pub count: u32,
-    pub list: [Effect; 3],
+    pub list: [Option<Effect>; 3],
 }
 
-// What an act says, besides the machine it leaves: steps are a run alone's, refusal 0 is none.
+// What an act says that nothing refuses, besides the machine it leaves: steps are a run alone's.
 #[derive(Clone, Copy)]
 pub struct Reply {
-    pub answer: Answer,
+    pub answer: Option<Answer>, // none while the call is under way
     pub effects: Effects,
     pub steps: u64,
-    pub refusal: u8,
 }
 
 // ---- the rows in code
@@ -92,60 +111,83 @@ pub struct ChangeColumns {
     pub drops: u64,
 }
 
+fn no_values() -> Values
+    ensures { result ≡ Aw.no_values }
+{
+    Values {
+        token: None,
+        count: None,
+    }
+}
+
+fn a_token(token: u64) -> Values
+    ensures { result ≡ Aw.a_token token }
+{
+    Values {
+        token: Some(token),
+        count: None,
+    }
+}
+
+fn a_count(count: u64) -> Values
+    ensures { result ≡ Aw.a_count count }
+{
+    Values {
+        token: None,
+        count: Some(count),
+    }
+}
+
 fn answered(number: u8, values: Values) -> AnswerColumns
     ensures { result ≡ record { number = number; values = values } }
 {
-    AnswerColumns {
-        number: number,
-        values: values,
-    }
+    AnswerColumns { number, values }
 }
 
 pub fn answer_row(a: Answer) -> AnswerColumns
     ensures { result ≡ Aw.columns (Aw.answer_row a) }
 {
     match a {
-        Answer::Pending => answered(0, Values::None),
-        Answer::Pushed => answered(1, Values::None),
-        Answer::Full(token) => answered(2, Values::Token(token)),
-        Answer::Popped(token) => answered(3, Values::Token(token)),
-        Answer::None => answered(4, Values::None),
-        Answer::Extended(count) => answered(5, Values::Count(count as u64)),
-        Answer::Stolen(count) => answered(6, Values::Count(count as u64)),
-        Answer::Taken { token, count } => answered(
-            7,
-            Values::Both {
-                token: token,
-                count: count as u64,
-            },
-        ),
-        Answer::Drain(count) => answered(8, Values::Count(count as u64)),
-        Answer::Item(token) => answered(9, Values::Token(token)),
-        Answer::Done => answered(10, Values::None),
-        Answer::Closed => answered(11, Values::None),
-        Answer::Busy => answered(12, Values::None),
-        Answer::Empty => answered(13, Values::None),
-        Answer::Spare(count) => answered(14, Values::Count(count as u64)),
-        Answer::Yes => answered(15, Values::None),
-        Answer::No => answered(16, Values::None),
+        Answer::Pushed => answered(1, no_values()),
+        Answer::Full(token) => answered(2, a_token(token)),
+        Answer::Popped(token) => answered(3, a_token(token)),
+        Answer::None => answered(4, no_values()),
+        Answer::Extended(count) => answered(5, a_count(count as u64)),
+        Answer::Stolen(count) => answered(6, a_count(count as u64)),
+        Answer::Taken { token, count } => {
+            let values = Values {
+                token: Some(token),
+                count: Some(count as u64),
+            };
+            answered(7, values)
+        }
+        Answer::Drain(count) => answered(8, a_count(count as u64)),
+        Answer::Item(token) => answered(9, a_token(token)),
+        Answer::Done => answered(10, no_values()),
+        Answer::Closed => answered(11, no_values()),
+        Answer::Busy => answered(12, no_values()),
+        Answer::Empty => answered(13, no_values()),
+        Answer::Spare(count) => answered(14, a_count(count as u64)),
+        Answer::Yes => answered(15, no_values()),
+        Answer::No => answered(16, no_values()),
     }
 }
 
-pub fn is_pending(a: Answer) -> bool
-    ensures { result ≡ Aw.is_pending a }
+// The call is under way.
+pub fn is_pending(answer: Option<Answer>) -> bool
+    ensures { result ≡ Aw.is_pending answer }
 {
-    let row = answer_row(a);
-    row.number == 0
+    answer.is_none()
 }
 
 fn changed(number: u8, values: Values, lands: bool, drops: u64) -> ChangeColumns
     ensures { result ≡ record { number = number; values = values; lands = lands; drops = drops } }
 {
     ChangeColumns {
-        number: number,
-        values: values,
-        lands: lands,
-        drops: drops,
+        number,
+        values,
+        lands,
+        drops,
     }
 }
 
@@ -153,38 +195,14 @@ pub fn change_row(c: Change) -> ChangeColumns
     ensures { result ≡ Ef.columns (Ef.change_row c) }
 {
     match c {
-        Change::None => changed(0, Values::None, false, 0),
-        Change::Offered(token) => changed(1, Values::Token(token), false, 0),
-        Change::Accepted => changed(2, Values::None, false, 0),
-        Change::Popped => changed(3, Values::None, false, 0),
-        Change::Booked(count) => changed(4, Values::Count(count as u64), false, 0),
-        Change::Landed(count) => changed(5, Values::Count(count as u64), true, 0),
-        Change::TakeLanded(count) => changed(6, Values::Count(count as u64), true, 0),
-        Change::Drained => changed(7, Values::None, false, 0),
-        Change::Dropped(count) => changed(8, Values::Count(count), false, count),
-        Change::Closed => changed(9, Values::None, false, 0),
-    }
-}
-
-// The token among the values, or 0; the count, or 0.
-pub fn token_of(values: Values) -> u64
-    ensures { result ≡ get_or (Aw.tokens_of values) 0 0 }
-{
-    match values {
-        Values::None => 0,
-        Values::Token(token) => token,
-        Values::Count(_) => 0,
-        Values::Both { token, count: _ } => token,
-    }
-}
-
-pub fn count_of(values: Values) -> u64
-    ensures { result ≡ get_or (Aw.counts_of values) 0 0 }
-{
-    match values {
-        Values::None => 0,
-        Values::Token(_) => 0,
-        Values::Count(count) => count,
-        Values::Both { token: _, count } => count,
+        Change::Offered(token) => changed(1, a_token(token), false, 0),
+        Change::Accepted => changed(2, no_values(), false, 0),
+        Change::Popped => changed(3, no_values(), false, 0),
+        Change::Booked(count) => changed(4, a_count(count as u64), false, 0),
+        Change::Landed(count) => changed(5, a_count(count as u64), true, 0),
+        Change::TakeLanded(count) => changed(6, a_count(count as u64), true, 0),
+        Change::Drained => changed(7, no_values(), false, 0),
+        Change::Dropped(count) => changed(8, a_count(count), false, count),
+        Change::Closed => changed(9, no_values(), false, 0),
     }
 }

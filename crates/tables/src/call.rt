@@ -10,7 +10,7 @@ pub enum Rule {
 }
 
 // What a step line says after the party: nothing, weak, given N (a number or a token), end.
-#[derive(Clone, Copy)]
+#[derive(Clone, Copy, PartialEq, Eq)]
 pub enum Mark {
     Plain,
     Weak,

@@ -4,7 +4,7 @@ use super::call::Rule;
 use words::Position;
 
 // Which of the two moves tokens: a steal, or a take, which keeps its last token in hand.
-#[derive(Clone, Copy)]
+#[derive(Clone, Copy, PartialEq, Eq)]
 pub enum Transfer {
     Steal,
     Take,

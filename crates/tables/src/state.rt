@@ -1,12 +1,12 @@
 // The record that is handed in and back: a table of party records and queue words.
-use super::answer::Reply;
+use super::answer::{Refusal, Reply};
 use super::place::Place;
 
 // The party limit.
 pub const MOST: usize = 16;
 
 // Which of the two queues of the Rust crate it is.
-#[derive(Clone, Copy)]
+#[derive(Clone, Copy, PartialEq, Eq)]
 pub enum Kind {
     Lifo,
     Fifo,
@@ -45,16 +45,16 @@ pub struct Machine {
     pub queue: [Queue; MOST],
 }
 
-// What an act leaves: the machine, and what is said.
+// What an act leaves: the machine, as it came if it was refused, and what is said.
 #[derive(Clone, Copy)]
 pub struct Acted {
     pub machine: Machine,
-    pub reply: Reply,
+    pub reply: Result<Reply, Refusal>,
 }
 
-// What an opening gives; refusal 0 is none.
+// What an opening gives. Refused, it gives a machine too: no parties, of the kinds asked for.
 #[derive(Clone, Copy)]
 pub struct Opened {
     pub machine: Machine,
-    pub refusal: u8,
+    pub refusal: Option<Refusal>,
 }

@@ -1,9 +1,13 @@
 -- Numbers read and written.
 use Rattle.std.proofs.Common.{◌≡◌, ℕ, zero, suc, ◌+◌, ◌-◌, ◌*◌, ◌/◌, ◌%◌, ◌^◌, ◌<◌, ◌≤◌, Bool, true, false, eqb, ltb, leb, List, [], ◌∷◌, ◌++◌, length, get_or, drop, sym, refl, ap, ◌∙◌, subst, append-nil, le_trans, mul-le-mul_right, mul_assoc, add-one, arith, drop_of_length-le, drop-cons, ltb-true, le-ltb, lt-ltb, ne_eqb, eqb-true, le-leb, leb-false, leb-true}
-use mathlib.Core.Option.{Option, none, some, some-injective, none-ne-some}
-use borrow.Author.Tests.{lt-leb}
+use Rattle.std.specs.Prelude.{Option, Some, None, ◌&&◌}
+use Rattle.std.specs.Char.{is_ascii_digit}
+use Rattle.std.proofs.lemmas.Option.{same_Some, none-some}
 use Rattle.words.specs.Word.{pick}
 use Rattle.text.specs.Number.{digits_of, number_of, digits_to, decimal_of}
+
+no : {A : Type 0} → true ≡ false → A
+no e = absurd (let z : ◌≡◌ {A = ℕ} 1 0 = cc in omega arith)
 
 -- ---- read
 
@@ -12,34 +16,49 @@ unfolding number_of
 number_some [] h = absurd (h refl)
 number_some (b ∷ s) h = refl
 
-pub number_none : (s : List ℕ) → length s ≡ 0 → number_of s ≡ none
+pub number_none : (s : List ℕ) → length s ≡ 0 → number_of s ≡ None
 unfolding number_of
 number_none [] h = refl
 number_none (b ∷ s) h = absurd (omega (arith, h))
 
-pub digits_end : (n : ℕ) (s : List ℕ) (i : ℕ) → length s ≤ i → digits_of n (drop i s) ≡ some n
+pub digits_end : (n : ℕ) (s : List ℕ) (i : ℕ) → length s ≤ i → digits_of n (drop i s) ≡ Some n
 unfolding digits_of
 digits_end n s i k = rw (drop_of_length-le s k)
 
 -- a turn, by the byte b at i
 module _ (n : ℕ) (s : List ℕ) (i b : ℕ) (h : i < length s) (e : b ≡ get_or s i 0) where
   turn : digits_of n (drop i s)
-      ≡ pick (leb 48 b) (pick (leb b 57) (pick (ltb (n * 10 + (b - 48)) (2 ^ 64)) (digits_of (n * 10 + (b - 48)) (drop (i + 1) s)) none) none) none
+      ≡ pick (leb 48 b) (pick (leb b 57) (pick (ltb (n * 10 + (b - 48)) (2 ^ 64)) (digits_of (n * 10 + (b - 48)) (drop (i + 1) s)) None) None) None
   unfolding digits_of
   turn = rw (add-one, drop-cons s i 0 h, ← e)
 
-  pub digits_low : b < 48 → digits_of n (drop i s) ≡ none
-  digits_low k = rw (turn, lt-leb _ _ k)
+  pub digits_other : is_ascii_digit b ≡ false → digits_of n (drop i s) ≡ None
+  digits_other k = turn ∙ by (leb 48 b) (leb b 57) k
+    where
+      by : (p q : Bool) → (p && q) ≡ false
+          → pick p (pick q (pick (ltb (n * 10 + (b - 48)) (2 ^ 64)) (digits_of (n * 10 + (b - 48)) (drop (i + 1) s)) None) None) None ≡ None
+      by true true e = no e
+      by true false e = refl
+      by false q e = refl
 
-  pub digits_high : 48 ≤ b → 9 < b - 48 → digits_of n (drop i s) ≡ none
-  digits_high k l = rw (turn, le-leb _ _ k, lt-leb b 57 (omega arith))
+  digit_range : is_ascii_digit b ≡ true → (48 ≤ b) × (b ≤ 57)
+  digit_range k = by (leb 48 b) (leb b 57) refl refl k
+    where
+      by : (p q : Bool) → leb 48 b ≡ p → leb b 57 ≡ q → (p && q) ≡ true → (48 ≤ b) × (b ≤ 57)
+      by true true f g e = (leb-true 48 b f, leb-true b 57 g)
+      by true false f g e = no (sym e)
+      by false q f g e = no (sym e)
 
-  pub digits_past : 48 ≤ b → b - 48 ≤ 9 → 18446744073709551615 < n * 10 + (b - 48) → digits_of n (drop i s) ≡ none
-  digits_past k l m = rw (turn, le-leb _ _ k, le-leb b 57 (omega arith), le-ltb (n * 10 + (b - 48)) (2 ^ 64) (omega arith))
+  pub digits_past : is_ascii_digit b ≡ true → 2 ^ 64 ≤ n * 10 + (b - 48) → digits_of n (drop i s) ≡ None
+  digits_past k m =
+      let r = digit_range k in
+      rw (turn, le-leb 48 b r.0, le-leb b 57 r.1, le-ltb (n * 10 + (b - 48)) (2 ^ 64) m)
 
-  pub digits_more : 48 ≤ b → b - 48 ≤ 9 → n * 10 + (b - 48) ≤ 18446744073709551615
+  pub digits_more : is_ascii_digit b ≡ true → n * 10 + (b - 48) < 2 ^ 64
       → digits_of n (drop i s) ≡ digits_of (n * 10 + (b - 48)) (drop (i + 1) s)
-  digits_more k l m = rw (turn, le-leb _ _ k, le-leb b 57 (omega arith), lt-ltb (n * 10 + (b - 48)) (2 ^ 64) (omega arith))
+  digits_more k m =
+      let r = digit_range k in
+      rw (turn, le-leb 48 b r.0, le-leb b 57 r.1, lt-ltb (n * 10 + (b - 48)) (2 ^ 64) m)
 
 -- ---- reading back what is written
 
@@ -91,24 +110,24 @@ unfolding tens
 twenty n k = omega arith
 
 -- Every number of 64 bits is read back as it was written.
-pub read_back : (n : ℕ) → n < 2 ^ 64 → number_of (decimal_of n) ≡ some n
+pub read_back : (n : ℕ) → n < 2 ^ 64 → number_of (decimal_of n) ≡ Some n
 unfolding decimal_of digits_of
 read_back n k = number_some (digits_to 20 n []) (written 19 n) ∙ back 20 n [] (twenty n k) k
 
 -- ---- writing again what was read
 
-some_then : (t : Bool) (x : Option ℕ) (n : ℕ) → pick t x none ≡ some n → (t ≡ true) × (x ≡ some n)
+some_then : (t : Bool) (x : Option ℕ) (n : ℕ) → pick t x None ≡ Some n → (t ≡ true) × (x ≡ Some n)
 some_then true x n e = (refl, e)
-some_then false x n e = absurd (none-ne-some n e)
+some_then false x n e = absurd (none-some n e)
 
 -- a digit was read: it is one, and what is left was read after it
 pub record Digit (m b : ℕ) (s : List ℕ) (n : ℕ) : Type 0 where
   pub low : 48 ≤ b
   pub high : b ≤ 57
   pub fits : m * 10 + (b - 48) < 2 ^ 64
-  pub rest : digits_of (m * 10 + (b - 48)) s ≡ some n
+  pub rest : digits_of (m * 10 + (b - 48)) s ≡ Some n
 
-pub digit_read : (m b : ℕ) (s : List ℕ) (n : ℕ) → digits_of m (b ∷ s) ≡ some n → Digit m b s n
+pub digit_read : (m b : ℕ) (s : List ℕ) (n : ℕ) → digits_of m (b ∷ s) ≡ Some n → Digit m b s n
 unfolding digits_of
 digit_read m b s n e =
     let one = some_then (leb 48 b) _ n e in
@@ -117,9 +136,9 @@ digit_read m b s n e =
     record { low = leb-true 48 b one.0; high = leb-true b 57 two.0; fits = ltb-true _ _ three.0; rest = three.1 }
 
 -- each digit makes the number ten times as large
-grown : (s : List ℕ) (m n : ℕ) → digits_of m s ≡ some n → m * tens (length s) ≤ n
+grown : (s : List ℕ) (m n : ℕ) → digits_of m s ≡ Some n → m * tens (length s) ≤ n
 unfolding digits_of tens
-grown [] m n e = omega (arith, some-injective m n e)
+grown [] m n e = omega (arith, same_Some m n e)
 grown (b ∷ s) m n e =
     let d : Digit m b s n = digit_read m b s n e in
     let g : (m * 10 + (b - 48)) * tens (length s) ≤ n = grown s (m * 10 + (b - 48)) n d.rest in
@@ -128,9 +147,9 @@ grown (b ∷ s) m n e =
     more : (k : ℕ) → m * (10 * tens k) ≤ (m * 10 + (b - 48)) * tens k
     more k = subst (λ (x : ℕ). x ≤ (m * 10 + (b - 48)) * tens k) (mul_assoc m 10 (tens k)) (mul-le-mul_right (tens k) (omega arith))
 
-read_fits : (s : List ℕ) (m n : ℕ) → m < 2 ^ 64 → digits_of m s ≡ some n → n < 2 ^ 64
+read_fits : (s : List ℕ) (m n : ℕ) → m < 2 ^ 64 → digits_of m s ≡ Some n → n < 2 ^ 64
 unfolding digits_of
-read_fits [] m n h e = omega (arith, some-injective m n e, h)
+read_fits [] m n h e = omega (arith, same_Some m n e, h)
 read_fits (b ∷ s) m n h e = let d : Digit m b s n = digit_read m b s n e in read_fits s (m * 10 + (b - 48)) n d.fits d.rest
 
 -- one digit more is written before what was written of the number so far
@@ -141,9 +160,9 @@ digit_written f m b after h lo hi =
     let r : 48 + (m * 10 + (b - 48)) % 10 ≡ b = omega arith in
     rw (q, r, ne_eqb m 0 (λ e. omega (arith, e)))
 
-rewritten : (s after : List ℕ) (f m n : ℕ) → 0 < m → digits_of m s ≡ some n → digits_to (length s + f) n after ≡ digits_to f m (s ++ after)
+rewritten : (s after : List ℕ) (f m n : ℕ) → 0 < m → digits_of m s ≡ Some n → digits_to (length s + f) n after ≡ digits_to f m (s ++ after)
 unfolding digits_of
-rewritten [] after f m n h e = let z : 0 + f ≡ f = omega arith in rw (z, some-injective m n e)
+rewritten [] after f m n h e = let z : 0 + f ≡ f = omega arith in rw (z, same_Some m n e)
 rewritten (b ∷ s) after f m n h e =
     let d : Digit m b s n = digit_read m b s n e in
     let p : length (b ∷ s) + f ≡ length s + suc f = omega arith in
@@ -157,7 +176,7 @@ tens_more j zero = let e : zero + j ≡ j = omega arith in rw e (omega arith)
 tens_more j (suc k) = let e : suc k + j ≡ suc (k + j) = omega arith in rw e (omega (arith, tens_more j k))
 
 -- a number of 64 bits has no more than twenty digits
-at_most_twenty : (s : List ℕ) (m n : ℕ) → 0 < m → m < 2 ^ 64 → digits_of m s ≡ some n → length s ≤ 19
+at_most_twenty : (s : List ℕ) (m n : ℕ) → 0 < m → m < 2 ^ 64 → digits_of m s ≡ Some n → length s ≤ 19
 unfolding tens
 at_most_twenty s m n h k e = by (leb (length s) 19) refl
   where
@@ -171,12 +190,12 @@ at_most_twenty s m n h k e = by (leb (length s) 19) refl
         absurd (omega (arith, rw l at g, one, grown s m n e, read_fits s m n k e))
 
 -- Digits without a 0 before others are written again as they were read.
-pub write_back : (b : ℕ) (s : List ℕ) (n : ℕ) → (b ≡ 48 → ⊥) → number_of (b ∷ s) ≡ some n → decimal_of n ≡ b ∷ s
+pub write_back : (b : ℕ) (s : List ℕ) (n : ℕ) → (b ≡ 48 → ⊥) → number_of (b ∷ s) ≡ Some n → decimal_of n ≡ b ∷ s
 unfolding number_of decimal_of digits_to
 write_back b s n ne e =
     let d : Digit 0 b s n = digit_read 0 b s n e in
     let v : 0 * 10 + (b - 48) ≡ b - 48 = omega arith in
-    let read : digits_of (b - 48) s ≡ some n = rw v at d.rest in
+    let read : digits_of (b - 48) s ≡ Some n = rw v at d.rest in
     let some_left : 0 < b - 48 = omega (arith, ne, d.low) in
     let few : length s ≤ 19 = at_most_twenty s (b - 48) n some_left (omega (arith, d.high)) read in
     let l : length s + suc (19 - length s) ≡ 20 = omega arith in

@@ -11,7 +11,8 @@ use Rattle.text.specs.Ascii.{ascii}
 use Rattle.text.specs.Session.{State}
 use Rattle.text.specs.Write.{field_for, fields_for, rest_head, rest_of}
 use Rattle.text.specs.Output.{after, lines_taken, resting_at, rest_lines, queues_of}
-use Rattle.text.specs.Feeding.{enough, Flow, flow, Fed, fed_in, Cursor, cursor, part_at, part_next, Rested, parts_in, parts_from, last_fed, rests_in, is_written}
+use Rattle.text.specs.declared.run.Cursor.{Cursor}
+use Rattle.text.specs.Feeding.{enough, Flow, flow, Fed, fed_in, cursor, part_at, part_next, Rested, parts_in, parts_from, last_fed, rests_in, is_written}
 use Rattle.text.proofs.Leftover.{lines_from, left_lines, left_feeding, lines_more}
 
 -- of queue q's rest line, from part i on

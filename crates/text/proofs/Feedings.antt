@@ -1,32 +1,26 @@
 -- A piece of input taken line by line is the piece taken byte by byte, and what is taken in turns is taken at once.
-use Rattle.std.proofs.Common.{◌≡◌, ℕ, zero, suc, ◌+◌, ◌-◌, ◌<◌, ◌≤◌, Bool, true, false, eqb, ltb, leb, ◌⊎◌, List, [], ◌∷◌, ◌++◌, length, get_or, take, drop, set, sym, refl, ap, ◌∙◌, subst, ap₂, inl, inr, append_assoc, append-nil, add-one, arith, length-append, length-drop, drop_of_length-le, length-take-le, take_all, drop-cons, drop-drop, take-suc-set, take_at, le-ltb, lt-ltb, ne_eqb, le-leb, leb-false, leb-true}
+use Rattle.std.proofs.Common.{◌≡◌, ℕ, zero, suc, ◌+◌, ◌-◌, ◌<◌, ◌≤◌, min, Bool, true, false, eqb, ltb, leb, ◌⊎◌, List, [], ◌∷◌, ◌++◌, length, take, drop, sym, refl, ap, ◌∙◌, subst, ap₂, inl, inr, append_assoc, append-nil, arith, length-drop, length-take-le, take_all, drop-drop, le-ltb, lt-ltb, le-leb, leb-false, leb-true}
 use lib.Dec.{leb-suc-suc}
-use lib.Seq.{length-sets, take-length}
+use lib.Seq.{sets, take-append-add, take-length}
+use borrow.Rule.Slice.PartMut.{put_mid}
 use borrow.Author.Tests.{lt-leb}
+use Rattle.std.proofs.lemmas.List.{take_min}
+use Rattle.std.proofs.lemmas.Slice.{take-put_mid}
 use Rattle.words.specs.Word.{pick}
 use Rattle.words.specs.Edition.{width}
 use Rattle.text.specs.Bytes.{slice, index_of, index_after}
 use Rattle.tables.specs.Machine.{most}
 use Rattle.text.specs.Session.{State, Turn, next_of}
 use Rattle.text.specs.declared.Line.TheVariants as Line
-use Rattle.text.specs.Line.{fields, line_of, read_of}
-use Rattle.text.specs.Write.{Wrote}
+use Rattle.std.specs.Prelude.{unwrap_or}
+use Rattle.text.specs.Line.{parted, line_of, read_of}
+use Rattle.text.specs.declared.write.Out.{Out}
+use Rattle.text.specs.Write.{Wrote, HasRoom, Puts, room_of}
 use Rattle.text.specs.Output.{after}
 use Rattle.text.specs.Feeding.{enough, Flow, flow, kept, kept_all, Fed, nothing_fed, fed_after, fed_in, Gets}
-use Rattle.text.proofs.Writing.{then, wrote_none}
+use Rattle.text.proofs.Writing.{puts_then, puts_none}
 
 -- ---- the line at hand
-
-pub kept_full : (l s : List ℕ) → length l ≡ 121 → kept_all l s ≡ l
-unfolding kept_all
-kept_full l [] h = refl
-kept_full l (b ∷ s) h = ap (λ (x : List ℕ). kept_all x s) (take_at l (b ∷ []) 121 h) ∙ kept_full l s h
-
-pub kept_one : (line : List ℕ) (n b : ℕ) → n < 121 → length line ≡ 121 → kept (take n line) b ≡ take (n + 1) (set line n b)
-kept_one line n b h e =
-    let k : length (take n line) ≡ n = length-take-le n line (omega (arith, e)) in
-    take_all 121 (take n line ++ (b ∷ [])) (omega (arith, k, length-append (take n line) (b ∷ [])))
-    ∙ sym (ap (λ (j : ℕ). take j (set line n b)) (add-one n) ∙ take-suc-set line n b (omega (arith, e)))
 
 pub take_cut : (n : ℕ) (x s : List ℕ) → take n (take n x ++ s) ≡ take n (x ++ s)
 take_cut zero x s = refl
@@ -51,23 +45,29 @@ unfolding read_of
 kept_read w s = by (leb (length s) 120) refl
   where
     by : (t : Bool) → leb (length s) 120 ≡ t
-        → pick (leb (length (take 121 s)) 120) (line_of w (fields (take 121 s))) Line.Malformed ≡ pick (leb (length s) 120) (line_of w (fields s)) Line.Malformed
+        → pick (leb (length (take 121 s)) 120) (unwrap_or (line_of w (parted (take 121 s))) Line.Malformed) Line.Malformed
+        ≡ pick (leb (length s) 120) (unwrap_or (line_of w (parted s)) Line.Malformed) Line.Malformed
     by true e = rw (take_all 121 s (omega (arith, leb-true (length s) 120 e)))
     by false e =
         let h : 120 < length s = leb-false (length s) 120 e in
         rw (e, lt-leb (length (take 121 s)) 120 (omega (arith, length-take-le 121 s (omega (arith, h)))))
 
--- a turn of the copy
-pub kept_more : (line : List ℕ) (n : ℕ) (s : List ℕ) (i : ℕ) → n < 121 → length line ≡ 121 → i < length s
-    → kept_all (take n line) (drop i s) ≡ kept_all (take (n + 1) (set line n (get_or s i 0))) (drop (i + 1) s)
-unfolding kept_all
-kept_more line n s i h e k =
-    ap (kept_all (take n line)) (drop-cons s i 0 k)
-    ∙ ap₂ kept_all (kept_one line n (get_or s i 0) h e) (ap (λ (j : ℕ). drop j s) (sym (add-one i)))
-
-pub kept_all_lem : (l s : List ℕ) (i : ℕ) → length s ≤ i → kept_all l (drop i s) ≡ l
-unfolding kept_all
-kept_all_lem l s i h = ap (kept_all l) (drop_of_length-le s h)
+-- what is kept of the bytes that follow the first k: as many as have room
+pub kept_in : (l : List ℕ) (count : ℕ) (s ys : List ℕ) {k n : ℕ} → length l ≡ 121 → k ≡ min count 121 → n ≡ min (length s) (121 - k)
+    → ys ≡ take (k + n - k) s → take (k + n) (put_mid k (k + n - k) l ys) ≡ kept_all (take count l) s
+kept_in l count s ys {k} {n} e c m z =
+    let h : k ≤ 121 = omega (arith, c) in
+    let y : ys ≡ take n s = z ∙ ap (λ (j : ℕ). take j s) (omega arith) in
+    let all : take k l ≡ take count l = ap (λ (j : ℕ). take j l) (omega (arith, c, e)) ∙ take_min count l in
+    let a : length (take k l) ≡ k = length-take-le k l (omega arith) in
+    let b : length ys ≡ n = ap length y ∙ length-take-le n s (omega arith) in
+    let room : 121 ≡ length (take k l) + (121 - k) = omega arith in
+    let least : n ≡ min (121 - k) (length s) = omega arith in
+    subst (λ (x : List ℕ). take (k + n) (put_mid k (k + n - k) l ys) ≡ kept_all x s) all
+    (take-put_mid k (k + n - k) l ys (k + n) (omega arith) (omega arith)
+    ∙ sym (kept_take (take k l) s (omega arith)
+    ∙ (ap (λ (j : ℕ). take j (take k l ++ s)) room ∙ take-append-add (take k l) s (121 - k)
+    ∙ ap (λ (z : List ℕ). take k l ++ z) (sym (take_min (121 - k) s) ∙ ap (λ (j : ℕ). take j s) (sym least) ∙ sym y))))
 
 -- ---- a line at a time
 
@@ -132,50 +132,30 @@ fed_after_lem a b n k r = λ i. record { flow = r.flow; text = sym (append_assoc
     sum : n + (k + r.used) ≡ n + k + r.used
     sum = omega arith
 
-pub gets_self : (piece : List ℕ) (f : Flow) (used : ℕ) (l : List ℕ) (put : ℕ) → used ≤ length piece → put ≤ length l
-    → Gets piece f used l put f used l put
-gets_self piece f used l put h k = record {
-  text = [];
-  fed = λ i. record {
-    flow = (fed_in width most (length l - put) f (drop used piece)).flow;
-    text = (fed_in width most (length l - put) f (drop used piece)).text;
-    used = none i;
-  };
-  wrote = wrote_none l put;
-  onward = omega arith;
-  within = h;
-  room = k;
-}
-  where
-    none : (fed_in width most (length l - put) f (drop used piece)).used ≡ used - used + (fed_in width most (length l - put) f (drop used piece)).used
-    none = omega arith
-
 -- flows that are the same
-pub gets_as : {piece : List ℕ} {f f' g g' : Flow} {u v : ℕ} {l k : List ℕ} {p q : ℕ} → f ≡ f' → g ≡ g' → Gets piece f' u l p g' v k q
-    → Gets piece f u l p g v k q
-gets_as {piece} {f} {f'} {g} {g'} {u} {v} {l} {k} {p} {q} e d x =
-    subst (λ (a : Flow). Gets piece a u l p g v k q) (sym e) (subst (λ (a : Flow). Gets piece f' u l p a v k q) (sym d) x)
+pub gets_as : {piece : List ℕ} {f f' g g' : Flow} {u v : ℕ} {o p : Out} → f ≡ f' → g ≡ g' → Gets piece f' u o g' v p
+    → Gets piece f u o g v p
+gets_as {piece} {f} {f'} {g} {g'} {u} {v} {o} {p} e d x =
+    subst (λ (a : Flow). Gets piece a u o g v p) (sym e) (subst (λ (a : Flow). Gets piece f' u o a v p) (sym d) x)
 
-pub gets_then : {piece : List ℕ} {f g h : Flow} {u v x : ℕ} {l k m : List ℕ} {p q r : ℕ} → Gets piece f u l p g v k q → Gets piece g v k q h x m r
-    → Gets piece f u l p h x m r
-gets_then {piece} {f} {g} {h} {u} {v} {x} {l} {k} {m} {p} {q} {r} a b =
-    let len : length k ≡ length l = ap length a.wrote.bytes ∙ length-sets l p a.text in
+pub gets_then : {piece : List ℕ} {f g h : Flow} {u v x : ℕ} {o p q : Out} → Gets piece f u o g v p → Gets piece g v p h x q
+    → Gets piece f u o h x q
+gets_then {piece} {f} {g} {h} {u} {v} {x} {o} {p} {q} a b =
     let way : v - u + (x - v) ≡ x - u = omega (arith, a.onward, b.onward) in
     record {
       text = a.text ++ b.text;
       fed =
-          a.fed ∙ ap (fed_after a.text (v - u)) (ap (λ (n : ℕ). fed_in width most (n - q) g (drop v piece)) (sym len) ∙ b.fed)
-          ∙ fed_after_lem a.text b.text (v - u) (x - v) (fed_in width most (length k - r) h (drop x piece))
-          ∙ ap₂ (λ (n j : ℕ). fed_after (a.text ++ b.text) n (fed_in width most (j - r) h (drop x piece))) way len;
-      wrote = then a.wrote b.wrote;
+          a.fed ∙ ap (fed_after a.text (v - u)) b.fed
+          ∙ fed_after_lem a.text b.text (v - u) (x - v) (fed_in width most (room_of q) h (drop x piece))
+          ∙ ap (λ (n : ℕ). fed_after (a.text ++ b.text) n (fed_in width most (room_of q) h (drop x piece))) way;
+      puts = puts_then a.puts b.puts;
       onward = omega (arith, a.onward, b.onward);
       within = b.within;
-      room = omega (arith, len, b.room);
     }
 
 -- the line at hand, as far as the piece has it: up to `end`, where its newline or the end of the piece is
-module _ (piece : List ℕ) (f : Flow) (used : ℕ) (l : List ℕ) (put end : ℕ) (held : List ℕ) (some : used < length piece)
-    (room : put + enough ≤ length l) (found : end ≡ used + index_of 10 (slice used (length piece) piece)) (last : end ≤ length piece)
+module _ (piece : List ℕ) (f : Flow) (used : ℕ) (o : Out) (end : ℕ) (held : List ℕ) (some : used < length piece)
+    (room : HasRoom o enough) (found : end ≡ used + index_of 10 (slice used (length piece) piece)) (last : end ≤ length piece)
     (held_is : held ≡ kept_all f.held (take (end - used) (drop used piece))) where
   abbrev s : List ℕ
   s = drop used piece
@@ -196,20 +176,19 @@ module _ (piece : List ℕ) (f : Flow) (used : ℕ) (l : List ℕ) (put end : �
       same : end - used ≡ k
       same = omega (arith, at_k)
 
-  first : fed_in width most (length l - put) f s ≡ first_fed width most (length l - put) f s k
-  first = fed_first width most (length l - put) (omega (arith, room)) f s
+  first : fed_in width most (room_of o) f s ≡ first_fed width most (room_of o) f s k
+  first = fed_first width most (room_of o) (omega (arith, room)) f s
 
-  pub line_part : end ≡ length piece → Gets piece f used l put (flow f.state held) end l put
+  pub line_part : end ≡ length piece → Gets piece f used o (flow f.state held) end o
   line_part e = record {
     text = [];
     fed =
         first ∙ rw (le-ltb k (length s) (omega (arith, at_k, long, e)))
-        (sym (ap (fed_after [] (end - used)) (fed_stops width most (length l - put) (flow f.state held) (drop end piece) (inr none))
+        (sym (ap (fed_after [] (end - used)) (fed_stops width most (room_of o) (flow f.state held) (drop end piece) (inr none))
         ∙ λ i. record { flow = flow f.state (all i); text = []; used = count i }));
-    wrote = wrote_none l put;
+    puts = puts_none o;
     onward = omega (arith, at_k);
     within = last;
-    room = omega (arith, room);
   }
     where
       none : length (drop end piece) ≡ 0
@@ -221,20 +200,19 @@ module _ (piece : List ℕ) (f : Flow) (used : ℕ) (l : List ℕ) (put end : �
       count : end - used + 0 ≡ length s
       count = omega (arith, at_k, long, e)
 
-  pub line_whole : (end ≡ length piece → ⊥) → (line : List ℕ) → line ≡ held → (st : State) (l' : List ℕ) (r : ℕ)
+  pub line_whole : (end ≡ length piece → ⊥) → (line : List ℕ) → line ≡ held → (st : State) (o' : Out)
       → st ≡ (next_of width most f.state.machine f.state.items f.state.session line).state
-      → Wrote l put (next_of width most f.state.machine f.state.items f.state.session line).text l' r → r ≤ put + enough
-      → Gets piece f used l put (flow st []) (end + 1) l' r
-  line_whole n line line_is st l' r st-is wrote near = record {
+      → Puts o (next_of width most f.state.machine f.state.items f.state.session line).text o'
+      → Gets piece f used o (flow st []) (end + 1) o'
+  line_whole n line line_is st o' st-is puts = record {
     text = text;
     fed =
         first ∙ rw (lt-ltb k (length s) (omega (arith, at_k, long, last, n)), ← taken, ← line_is, ← st-is, drop-drop (suc k) used piece)
         (ap₂ (λ (i j : ℕ). fed_after text i (fed_in width most j (flow st []) (drop (used + suc k) piece))) way left
-        ∙ ap (λ (i : ℕ). fed_after text (end + 1 - used) (fed_in width most (length l - r) (flow st []) (drop i piece))) next);
-    wrote = wrote;
+        ∙ ap (λ (i : ℕ). fed_after text (end + 1 - used) (fed_in width most (room_of o') (flow st []) (drop i piece))) next);
+    puts = puts;
     onward = omega (arith, at_k);
     within = omega (arith, last, n);
-    room = omega (arith, near, room);
   }
     where
       text : List ℕ
@@ -243,44 +221,39 @@ module _ (piece : List ℕ) (f : Flow) (used : ℕ) (l : List ℕ) (put end : �
       way : suc k ≡ end + 1 - used
       way = omega (arith, at_k)
 
-      left : length l - put - length text ≡ length l - r
-      left = omega (arith, wrote.after)
+      left : room_of o - length text ≡ room_of o'
+      left = omega (arith, puts.wrote.after, puts.long)
 
       next : used + suc k ≡ end + 1
       next = omega (arith, at_k)
 
 -- a whole piece: nothing is left of it, or no room
-pub gets_whole : {piece : List ℕ} {f f' : Flow} {l l' : List ℕ} {used put : ℕ} → Gets piece f 0 l 0 f' used l' put
-    → (length l - put < enough) ⊎ (length piece ≤ used)
-    → (r : Fed) → r ≡ fed_in width most (length l) f piece → (f' ≡ r.flow) × (used ≡ r.used) × Wrote l 0 r.text l' put
-gets_whole {piece} {f} {f'} {l} {l'} {used} {put} g stop r r-is = (
+pub gets_whole : {piece : List ℕ} {f f' : Flow} {o o' : Out} {used : ℕ} → Gets piece f 0 o f' used o'
+    → (room_of o' < enough) ⊎ (length piece ≤ used)
+    → (r : Fed) → r ≡ fed_in width most (room_of o) f piece → (f' ≡ r.flow) × (used ≡ r.used) × Puts o r.text o'
+gets_whole {piece} {f} {f'} {o} {o'} {used} g stop r r-is = (
   sym (ap (λ (x : Fed). x.flow) same),
   sym (ap (λ (x : Fed). x.used) same ∙ count),
-  rw (ap (λ (x : Fed). x.text) same ∙ append-nil g.text) g.wrote,
+  rw (ap (λ (x : Fed). x.text) same ∙ append-nil g.text) g.puts,
 )
   where
-    room : length l - 0 ≡ length l
-    room = omega arith
-
-    at_end : (length l - put < enough) ⊎ (length piece ≤ used) → (length l - put < enough) ⊎ (length (drop used piece) ≡ 0)
+    at_end : (room_of o' < enough) ⊎ (length piece ≤ used) → (room_of o' < enough) ⊎ (length (drop used piece) ≡ 0)
     at_end (inl h) = inl h
     at_end (inr h) = inr (length-drop used piece ∙ omega (arith, h))
 
     same : r ≡ fed_after g.text (used - 0) (nothing_fed f')
-    same =
-        r-is ∙ ap (λ (n : ℕ). fed_in width most n f piece) (sym room) ∙ g.fed
-        ∙ ap (fed_after g.text (used - 0)) (fed_stops width most (length l - put) f' (drop used piece) (at_end stop))
+    same = r-is ∙ g.fed ∙ ap (fed_after g.text (used - 0)) (fed_stops width most (room_of o') f' (drop used piece) (at_end stop))
 
     count : used - 0 + 0 ≡ used
     count = omega arith
 
--- ---- whether a line is at hand
-
-pub held_is : (count : ℕ) (held : List ℕ) → length held ≡ 121 → eqb count 0 ≡ eqb (length (take count held)) 0
-held_is zero held e = refl
-held_is (suc n) [] e = absurd (omega (arith, e))
-held_is (suc n) (b ∷ s) e =
-    ne_eqb (suc n) 0 (λ z. omega (arith, z)) ∙ sym (ne_eqb (suc (length (take n s))) 0 (λ z. omega (arith, z)))
+-- a buffer made of lent bytes, none put yet
+pub wrote_whole : {o o' : Out} {text l l' : List ℕ} → Puts o text o' → o.bytes.now ≡ l → o.put ≡ 0 → l' ≡ o'.bytes.now
+    → (Wrote l 0 text l' o'.put) × (o'.put ≤ length l)
+wrote_whole {o} {o'} {text} {l} {l'} puts e h d = (
+  record { bytes = d ∙ puts.wrote.bytes ∙ ap₂ (λ (x : List ℕ) (n : ℕ). sets x n text) e h; after = puts.wrote.after ∙ ap (λ (n : ℕ). n + length text) h },
+  omega (arith, o'.within, puts.long, ap length e),
+)
 
 -- ---- how far a piece comes
 

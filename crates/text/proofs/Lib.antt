@@ -1,4 +1,4 @@
-pub mod Codes
+pub mod Words
 pub mod Digits
 pub mod Parts
 pub mod Writing

@@ -1,13 +1,15 @@
 -- Many lines of a piece, one after the other: what the loop keeps, and that each kind of line keeps it.
-use Rattle.std.proofs.Common.{◌≡◌, ℕ, suc, ◌+◌, ◌-◌, ◌%◌, ◌^◌, ◌<◌, ◌≤◌, Bool, true, false, ltb, List, [], length, get_or, take, drop, set, sym, refl, ap, ⊎_elim, ◌⊎◌, ◌∙◌, subst, ap₂, true≢false, arith, length-drop, ltb-true, ne_eqb}
-use lib.Seq.{length-sets, take-length}
+use Rattle.std.proofs.Common.{◌≡◌, ℕ, suc, ◌+◌, ◌-◌, ◌%◌, ◌<◌, ◌≤◌, Bool, true, false, ltb, leb, List, [], length, get_or, take, drop, set, sym, refl, ap, ⊎_elim, ◌⊎◌, ◌∙◌, subst, true≢false, arith, length-drop, ltb-true, leb-true}
+use Rattle.std.specs.Prelude.{Option, Some, None, Result, Ok, Err}
+use Rattle.std.proofs.lemmas.Option.{same_Some, none-some}
+use lib.Seq.{take-length}
 use Rattle.words.specs.Edition.{width}
-use Rattle.words.specs.Word.{pick, Pow}
+use Rattle.words.specs.Word.{pick, Pow, plus}
 use Rattle.text.specs.Bytes.{slice, index_of}
 use Rattle.tables.specs.declared.access.Context.{Context}
 use Rattle.tables.specs.declared.access.Next.{Next}
-use Rattle.tables.specs.declared.access.Whose.{Whose}
 use Rattle.tables.specs.declared.answer.Answer.{Answer}
+use Rattle.tables.specs.declared.answer.Refusal.{Refusal}
 use Rattle.tables.specs.declared.call.Act.TheVariants as Act
 use Rattle.tables.specs.declared.call.Call.{Call}
 use Rattle.tables.specs.declared.call.Mark.{Mark}
@@ -15,31 +17,34 @@ use Rattle.tables.specs.declared.state.Kind.{Kind}
 use Rattle.tables.specs.declared.state.Machine.{Machine}
 use Rattle.tables.specs.declared.state.Party.{Party}
 use Rattle.tables.specs.Machine.{most, party_at, queue_at}
-use Rattle.tables.specs.Answer.{is_pending}
 use Rattle.tables.specs.Tables.{row_of, source_of}
-use Rattle.tables.specs.Step.{Result, refused, begin_order, site, of_outcome, acted}
+use Rattle.tables.specs.Refusal.{number_of, told}
+use Rattle.tables.specs.Step.{AfterAct, begin_order, acted}
 use Rattle.tables.proofs.Bools.{pick_yes, pick_no}
 use Rattle.queue.specs.declared.memory.Performed.{Performed}
 use Rattle.machine.specs.declared.row.Look.{Look}
 use Rattle.machine.specs.Look.{look, context_for, Fit}
+use Rattle.machine.specs.Desk.{begun, moved}
+use Rattle.machine.proofs.Acts.{still_here}
+use Rattle.machine.proofs.Told.{Test}
 use Rattle.machine.proofs.Rows as R
 use Rattle.text.specs.declared.Line.{Line}
 use Rattle.text.specs.declared.Found.{Found}
 use Rattle.text.specs.declared.session.Session.{Session}
 use Rattle.text.specs.declared.session.Stage.{Stage}
 use Rattle.text.specs.Line.{read_of}
-use Rattle.text.specs.Write.{Wrote, answer_of, refused_of}
-use Rattle.text.specs.Session.{Turn, state_of, at_line, counted, is_running, stays, refuses, outcome_text, acts, line_taken, next_of}
+use Rattle.text.specs.declared.write.Out.{Out}
+use Rattle.text.specs.Write.{HasRoom, Puts, room_of, answer_of, refused_of}
+use Rattle.text.specs.Session.{answer_text, Turn, state_of, at_line, counted, is_running, stays, refuses, acts, line_taken, next_of}
 use Rattle.text.specs.Find.{next_line}
 use Rattle.text.specs.Feeding.{flow, kept_all, Gets}
-use Rattle.text.specs.Stepping.{begun, moved, Reaches}
-use Rattle.text.proofs.Writing.{wrote_none}
-use Rattle.text.proofs.Feedings.{kept_take, kept_read, gets_self, gets_then, line_whole}
+use Rattle.text.specs.Stepping.{Reaches}
+use Rattle.text.proofs.Writing.{puts_none}
+use Rattle.text.proofs.Feedings.{kept_take, kept_read, gets_then, line_whole}
 
 -- ---- a line that was found
 
-module _ (piece : List ℕ) (from : ℕ) (inside : from ≤ length piece) (r : Found) (found : r ≡ next_line width piece from)
-    (apart : r.next ≡ from → ⊥) where
+module _ (piece : List ℕ) (from : ℕ) (inside : from ≤ length piece) (r : Found) (found : Some r ≡ next_line width piece from) where
   abbrev s : List ℕ
   s = drop from piece
 
@@ -49,7 +54,7 @@ module _ (piece : List ℕ) (from : ℕ) (inside : from ≤ length piece) (r : F
   abbrev bytes : List ℕ
   bytes = take k s
 
-  either : r ≡ pick (ltb k (length s)) (record { line = read_of width bytes; next = from + suc k }) (record { line = Line.Malformed; next = from })
+  either : Some r ≡ pick (ltb k (length s)) (Some (record { line = read_of width bytes; next = from + suc k })) None
   unfolding next_line
   either = found
 
@@ -58,10 +63,10 @@ module _ (piece : List ℕ) (from : ℕ) (inside : from ≤ length piece) (r : F
     where
       by : (t : Bool) → ltb k (length s) ≡ t → ltb k (length s) ≡ true
       by true e = e
-      by false e = absurd (apart (ap (λ (f : Found). f.next) (either ∙ pick_no (ltb k (length s)) _ _ e)))
+      by false e = absurd (none-some r (sym (either ∙ pick_no (ltb k (length s)) _ _ e)))
 
   is : r ≡ record { line = read_of width bytes; next = from + suc k }
-  is = either ∙ pick_yes (ltb k (length s)) _ _ ended
+  is = same_Some _ _ (either ∙ pick_yes (ltb k (length s)) _ _ ended)
 
   next_is : r.next ≡ from + suc k
   next_is = ap (λ (f : Found). f.next) is
@@ -91,13 +96,13 @@ module _ (piece : List ℕ) (from : ℕ) (inside : from ≤ length piece) (r : F
 
   -- what its turn leaves is where the piece comes to
   pub line_gets : (m : Machine) (xs : List ℕ) (t : Session) (turn : Turn) → line_taken width most m xs (counted t) r.line ≡ turn
-      → (l : List ℕ) (put : ℕ) → put + 128 ≤ length l → (l' : List ℕ) (put' : ℕ) → Wrote l put turn.text l' put' → put' ≤ put + 128
-      → Gets piece (flow (state_of t m xs) []) from l put (flow turn.state []) r.next l' put'
-  line_gets m xs t turn e l put room l' put' wrote near =
-      subst (λ (n : ℕ). Gets piece (flow (state_of t m xs) []) from l put (flow turn.state []) n l' put') there
-      (line_whole piece (flow (state_of t m xs) []) from l put (from + k) (kept_all [] bytes) (omega (arith, below)) room at
+      → (o : Out) → HasRoom o 128 → (o' : Out) → Puts o turn.text o'
+      → Gets piece (flow (state_of t m xs) []) from o (flow turn.state []) r.next o'
+  line_gets m xs t turn e o room o' puts =
+      subst (λ (n : ℕ). Gets piece (flow (state_of t m xs) []) from o (flow turn.state []) n o') there
+      (line_whole piece (flow (state_of t m xs) []) from o (from + k) (kept_all [] bytes) (omega (arith, below)) room at
       (omega (arith, below)) (ap (λ (n : ℕ). kept_all [] (take n s)) same) (λ q. omega (arith, below, q)) (kept_all [] bytes) refl
-      turn.state l' put' (ap (λ (u : Turn). u.state) whole) (subst (λ (u : Turn). Wrote l put u.text l' put') whole wrote) near)
+      turn.state o' (ap (λ (u : Turn). u.state) whole) (subst (λ (u : Turn). Puts o u.text o') whole puts))
     where
       whole : turn ≡ next_of width most m xs t (kept_all [] bytes)
       whole = sym e ∙ turn_is m xs t
@@ -126,196 +131,158 @@ module _ (m : Machine) (xs : List ℕ) (t : Session) (run : is_running t.stage �
   other_is (Line.Step p k) h = absurd (⊎_elim (λ o. let e = o.2 in cc) (λ k. ⊎_elim (λ o. let e = o.2 in cc) (λ e. cc) k) h)
   other_is Line.Malformed h = rw (runs t.stage run)
 
-  acts_refused : (who code : ℕ) (o : Result) → o ≡ of_outcome (refused m xs code) → (code ≡ 0 → ⊥)
-      → acts m xs t who o ≡ record { state = state_of t m xs; text = refused_of t.line code }
-  acts_refused who code o e n = rw (run, e, ne_eqb code 0 n)
+  acts_refused : (who : ℕ) (e : Refusal) (o : AfterAct) → o ≡ still_here m xs e
+      → acts m xs t who o ≡ record { state = state_of t m xs; text = refused_of t.line (number_of e) }
+  acts_refused who e o h = rw (run, h)
 
-  acts_taken : (who : ℕ) (o : Result) {k : Machine} {ys : List ℕ} {a : Answer} → R.Took o k ys a
-      → acts m xs t who o ≡ record { state = state_of t k ys; text = outcome_text t.line who a 0 }
-  acts_taken who o h = rw (run, h.machine, h.items, h.answer, h.refusal)
-
--- the queue that a step reaches has a place of the table, whatever the line says
-pub site_in : (m : Machine) (x y : ℕ) (c : Context) (o : ℕ) → o ≡ site (row_of width c (party_at m x).place).whose x y
-    → x < most → y < most → o < most
-site_in m x y c o e h k = rw e (at (row_of width c (party_at m x).place).whose)
-  where
-    at : (w : Whose) → site w x y < most
-    at Whose.Own = h
-    at Whose.Source = k
+  acts_taken : (who : ℕ) (o : AfterAct) {k : Machine} {ys : List ℕ} {a : Option Answer} → R.Took o k ys a
+      → acts m xs t who o ≡ record { state = state_of t k ys; text = answer_text who a }
+  acts_taken who o h = rw (run, h.machine, h.items, h.reply)
 
 -- ---- what the loop keeps
 
--- of any session that runs: the loop's code has only its line count
-pub record Goes (starts piece : List ℕ) (parties : ℕ) (m₀ : Machine) (xs₀ : List ℕ) (line₀ from₀ : ℕ) (out₀ : List ℕ) (put₀ : ℕ)
-    (m : Machine) (xs : List ℕ) (line from : ℕ) (out : List ℕ) (put : ℕ) : Type 0 where
+pub record Goes (s : Session) (starts piece : List ℕ) (m₀ : Machine) (xs₀ : List ℕ) (from₀ : ℕ) (o₀ : Out)
+    (m : Machine) (xs : List ℕ) (line from : ℕ) (o : Out) : Type 0 where
+  pub running : is_running s.stage ≡ true
   pub fit : Fit m starts (length xs)
-  pub parties_are : m.parties ≡ parties
-  pub items_length : length xs ≡ length xs₀
-  pub within : from ≤ length piece
-  pub out_length : length out ≡ length out₀
-  pub room : put ≤ length out
-  pub gets : (s : Session) → is_running s.stage ≡ true → s.line ≡ line₀
-      → Gets piece (flow (state_of s m₀ xs₀) []) from₀ out₀ put₀ (flow (state_of (at_line line s) m xs) []) from out put
-
-pub goes_none : (starts piece : List ℕ) (m : Machine) (xs : List ℕ) (line from : ℕ) (out : List ℕ) (put : ℕ) → Fit m starts (length xs)
-    → from ≤ length piece → put ≤ length out → Goes starts piece m.parties m xs line from out put m xs line from out put
-goes_none starts piece m xs line from out put fit h k = record {
-  fit = fit;
-  parties_are = refl;
-  items_length = refl;
-  within = h;
-  out_length = refl;
-  room = k;
-  gets = λ s run e. subst (λ (n : ℕ). Gets piece (flow (state_of s m xs) []) from out put (flow (state_of (at_line n s) m xs) []) from out put)
-      e (gets_self piece (flow (state_of s m xs) []) from out put h k);
-}
+  pub gets : Gets piece (flow (state_of s m₀ xs₀) []) from₀ o₀ (flow (state_of (at_line line s) m xs) []) from o
 
 -- a line taken of it
-module _ {starts piece : List ℕ} {parties : ℕ} {m₀ : Machine} {xs₀ : List ℕ} {line₀ from₀ : ℕ} {out₀ : List ℕ} {put₀ : ℕ}
-    {m : Machine} {xs : List ℕ} {line from : ℕ} {out : List ℕ} {put : ℕ}
-    (g : Goes starts piece parties m₀ xs₀ line₀ from₀ out₀ put₀ m xs line from out put) (some : 128 ≤ length out - put)
-    (r : Found) (found : r ≡ next_line width piece from) (apart : r.next ≡ from → ⊥) (line' : ℕ) (line'-is : line' ≡ (line + 1) % 2 ^ 64) where
-  abbrev GoesOn : Machine → List ℕ → List ℕ → ℕ → Type 0
-  GoesOn m' xs' out' put' = Goes starts piece parties m₀ xs₀ line₀ from₀ out₀ put₀ m' xs' line' r.next out' put'
+module _ {s : Session} {starts piece : List ℕ} {m₀ : Machine} {xs₀ : List ℕ} {from₀ : ℕ} {o₀ : Out}
+    {m : Machine} {xs : List ℕ} {line from : ℕ} {o : Out}
+    (g : Goes s starts piece m₀ xs₀ from₀ o₀ m xs line from o) {b : Bool} (asked : b ≡ leb 128 (room_of o)) (yes : b ≡ true)
+    {r : Found} (found : Some r ≡ next_line width piece from) where
+  abbrev line' : ℕ
+  line' = plus 64 line 1
 
-  -- the turn, whatever the session is
-  abbrev Turns : Machine → List ℕ → List ℕ → Type 0
-  Turns m' xs' text = (s : Session) → is_running s.stage ≡ true
-      → line_taken width most m xs (at_line line' s) r.line ≡ record { state = state_of (at_line line' s) m' xs'; text = text }
+  abbrev GoesOn : Machine → List ℕ → Out → Type 0
+  GoesOn m' xs' o' = Goes s starts piece m₀ xs₀ from₀ o₀ m' xs' line' r.next o'
 
-  goes_on : (m' : Machine) (xs' text : List ℕ) → Turns m' xs' text → Fit m' starts (length xs') → m'.parties ≡ m.parties → length xs' ≡ length xs
-      → (out' : List ℕ) (put' : ℕ) → Wrote out put text out' put' → put' ≤ put + 128 → GoesOn m' xs' out' put'
-  goes_on m' xs' text turns fit p n out' put' wrote near = record {
+  abbrev t : Session
+  t = at_line line' s
+
+  some : HasRoom o 128
+  some = omega (arith, leb-true 128 (room_of o) (sym asked ∙ yes))
+
+  -- less of the piece is left
+  pub goes_further : length piece - r.next < length piece - from
+  goes_further = omega (arith, further piece from g.gets.within r found)
+
+  goes_on : (m' : Machine) (xs' text : List ℕ) → line_taken width most m xs t r.line ≡ record { state = state_of t m' xs'; text = text }
+      → Fit m' starts (length xs') → (o' : Out) → Puts o text o' → GoesOn m' xs' o'
+  goes_on m' xs' text turn fit o' puts = record {
+    running = g.running;
     fit = fit;
-    parties_are = p ∙ g.parties_are;
-    items_length = n ∙ g.items_length;
-    within = (further piece from g.within r found apart).1;
-    out_length = long ∙ g.out_length;
-    room = omega (arith, long, near, some);
-    gets = λ s run e. gets_then (g.gets s run e) (line_gets piece from g.within r found apart m xs (at_line line s)
-        (record { state = state_of (at_line line' s) m' xs'; text = text }) (counted_is s ∙ turns s run)
-        out put (omega (arith, some)) out' put' wrote near);
+    gets = gets_then g.gets (line_gets piece from g.gets.within r found m xs (at_line line s)
+        (record { state = state_of t m' xs'; text = text }) turn o some o' puts);
   }
-    where
-      long : length out' ≡ length out
-      long = ap length wrote.bytes ∙ length-sets out put text
 
-      counted_is : (s : Session)
-          → line_taken width most m xs (counted (at_line line s)) r.line ≡ line_taken width most m xs (at_line line' s) r.line
-      counted_is s = ap (λ (n : ℕ). line_taken width most m xs (at_line n s) r.line) (sym line'-is)
-
-  pub goes_other : IsOther r.line → (out' : List ℕ) (put' : ℕ) → Wrote out put (refused_of line' 9) out' put'
-      → put' ≤ put + 128 → GoesOn m xs out' put'
-  goes_other h = goes_on m xs (refused_of line' 9) (λ s run. other_is m xs (at_line line' s) run r.line h) g.fit refl refl
+  pub goes_other : IsOther r.line → {o' : Out} → Puts o (refused_of line' 9) o' → GoesOn m xs o'
+  goes_other h {o'} = goes_on m xs (refused_of line' 9) (other_is m xs t g.running r.line h) g.fit o'
 
   -- ---- begin
 
-  module _ (who : ℕ) (call : Call) (line_is : r.line ≡ Line.Begin who call) (x : ℕ) (x-is : x ≡ who % most) (code : ℕ)
-      (code_is : code ≡ begin_order true parties who (party_at m x).place call) where
-    abbrev began : Result
+  module _ {who : ℕ} {call : Call} (line_is : r.line ≡ Line.Begin who call) {x : ℕ} (x-is : x ≡ who % most) where
+    abbrev began : AfterAct
     began = acted width most m xs who (Act.Begin call)
 
-    began_is : (s : Session) → line_taken width most m xs (at_line line' s) r.line ≡ acts m xs (at_line line' s) who began
+    abbrev asked_of : Test
+    asked_of = told (begin_order true m.parties who (party_at m x).place call) tt
+
+    began_is : line_taken width most m xs t r.line ≡ acts m xs t who began
     unfolding line_taken
-    began_is s = ap (line_taken width most m xs (at_line line' s)) line_is
+    began_is = ap (line_taken width most m xs t) line_is
 
     abbrev f : ℕ
     f = source_of who (party_at m x).place
 
-    code_at : code ≡ begin_order true m.parties who (party_at m x).place call
-    code_at = code_is ∙ ap (λ (n : ℕ). begin_order true n who (party_at m x).place call) (sym g.parties_are)
+    pub goes_begin_refused : {e : Refusal} → Err e ≡ asked_of → {o' : Out} → Puts o (refused_of line' (number_of e)) o' → GoesOn m xs o'
+    goes_begin_refused {e} h {o'} =
+        goes_on m xs (refused_of line' (number_of e)) (began_is ∙ acts_refused m xs t g.running who e began
+        (R.begin_refused xs g.fit who x f (f % most) x-is refl refl call h)) g.fit o'
 
-    pub goes_begin_refused : (code ≡ 0 → ⊥) → (out' : List ℕ) (put' : ℕ) → Wrote out put (refused_of line' code) out' put'
-        → put' ≤ put + 128 → GoesOn m xs out' put'
-    goes_begin_refused n =
-        goes_on m xs (refused_of line' code) (λ s run. began_is s ∙ acts_refused m xs (at_line line' s) run who code began
-        (R.begin_refused xs g.fit who x f (f % most) x-is refl refl call code code_at n) n) g.fit refl refl
-
-    pub goes_begin_taken : code ≡ 0 → (p : Party) → p ≡ begun (party_at m x) (queue_at m x) call
-        → GoesOn (record { parties = m.parties; party = set m.party x p; queue = m.queue }) xs out put
-    goes_begin_taken clear p p_is =
-        goes_on next xs [] (λ s run. began_is s ∙ acts_taken m xs (at_line line' s) run who began took)
+    pub goes_begin_taken : Ok tt ≡ asked_of → {p : Party} → p ≡ begun (party_at m x) (queue_at m x) call
+        → GoesOn (record { parties = m.parties; party = set m.party x p; queue = m.queue }) xs o
+    goes_begin_taken h {p} p_is =
+        goes_on next xs [] (began_is ∙ acts_taken m xs t g.running who began took)
         (subst (λ (y : Machine). Fit y starts (length xs)) took.machine
         (subst (λ (ys : List ℕ). Fit began.machine starts (length ys)) took.items (R.fit_begin xs g.fit who call)))
-        refl refl out put (wrote_none out put) (omega arith)
+        o (puts_none o)
       where
         next : Machine
         next = record { parties = m.parties; party = set m.party x p; queue = m.queue }
 
         left : R.Took began (record { parties = m.parties; party = set m.party x (begun (party_at m x) (queue_at m x) call); queue = m.queue })
-            xs Answer.Pending
-        left = R.begin_taken xs g.fit who x f (f % most) x-is refl refl call code code_at clear
+            xs None
+        left = R.begin_taken xs g.fit who x f (f % most) x-is refl refl call h
 
-        took : R.Took began next xs Answer.Pending
+        took : R.Took began next xs None
         took = subst (λ (y : Party). R.Took began (record { parties = m.parties; party = set m.party x y; queue = m.queue }) xs
-            Answer.Pending) (sym p_is) left
+            None) (sym p_is) left
 
   -- ---- step
 
-  module _ (who : ℕ) (mark : Mark) (line_is : r.line ≡ Line.Step who mark) (x : ℕ) (x-is : x ≡ who % most) (f : ℕ)
-      (f-is : f ≡ source_of who (party_at m x).place) (y : ℕ) (y-is : y ≡ f % most) (c : Context) (c-is : c ≡ context_for m x y mark)
-      (o : Look) (o_is : o ≡ look width parties who x y (party_at m x).place c) where
-    abbrev made : Result
+  module _ {who : ℕ} {mark : Mark} (line_is : r.line ≡ Line.Step who mark) {x : ℕ} (x-is : x ≡ who % most) {f : ℕ}
+      (f-is : f ≡ source_of who (party_at m x).place) {y : ℕ} (y-is : y ≡ f % most) {c : Context} (c-is : c ≡ context_for m x y mark) where
+    abbrev made : AfterAct
     made = acted width most m xs who (Act.Step mark)
 
-    made_is : (s : Session) → line_taken width most m xs (at_line line' s) r.line ≡ acts m xs (at_line line' s) who made
+    made_is : line_taken width most m xs t r.line ≡ acts m xs t who made
     unfolding line_taken
-    made_is s = ap (line_taken width most m xs (at_line line' s)) line_is
+    made_is = ap (line_taken width most m xs t) line_is
 
-    look_at : o ≡ look width m.parties who x y (party_at m x).place (context_for m x y mark)
-    look_at =
-        o_is ∙ ap₂ (λ (n : ℕ) (d : Context). look width n who x y (party_at m x).place d) (sym g.parties_are) c-is
+    abbrev looked : Context → Result Look Refusal
+    looked d = look width m.parties who x y (party_at m x).place d
 
-    pub goes_step_refused : (o.code ≡ 0 → ⊥) → (out' : List ℕ) (put' : ℕ) → Wrote out put (refused_of line' o.code) out' put'
-        → put' ≤ put + 128 → GoesOn m xs out' put'
-    goes_step_refused n =
-        goes_on m xs (refused_of line' o.code) (λ s run. made_is s ∙ acts_refused m xs (at_line line' s) run who o.code made
-        (R.step_refused xs g.fit who x f y x-is f-is y-is mark o look_at n) n) g.fit refl refl
+    pub goes_step_refused : {e : Refusal} → Err e ≡ looked c → {o' : Out} → Puts o (refused_of line' (number_of e)) o' → GoesOn m xs o'
+    goes_step_refused {e} h {o'} =
+        goes_on m xs (refused_of line' (number_of e)) (made_is ∙ acts_refused m xs t g.running who e made
+        (R.step_refused xs g.fit who x f y x-is f-is y-is mark (h ∙ ap looked c-is))) g.fit o'
 
-    module _ (clear : o.code ≡ 0) where
-      pub own_some : 1 ≤ c.capacity
-      own_some = rw c-is (R.own_some xs g.fit who x f y x-is f-is y-is mark o look_at clear)
+    module _ {k : Look} (k_is : Ok k ≡ looked c) where
+      look_at : Ok k ≡ looked (context_for m x y mark)
+      look_at = k_is ∙ ap looked c-is
 
-      pub site_ready : Pow (queue_at m o.site).capacity × (get_or starts o.site 0 + (queue_at m o.site).capacity ≤ length xs)
+      pub site_in : k.site < most
+      site_in = R.site_in xs g.fit who x f y x-is f-is y-is mark k look_at
+
+      pub site_ready : Pow (queue_at m k.site).capacity × (get_or starts k.site 0 + (queue_at m k.site).capacity ≤ length xs)
       site_ready = (
-        R.site_power xs g.fit who x f y x-is f-is y-is mark o look_at clear,
-        R.site_fits xs g.fit who x f y x-is f-is y-is mark o look_at clear,
+        R.site_power xs g.fit who x f y x-is f-is y-is mark k look_at,
+        R.site_fits xs g.fit who x f y x-is f-is y-is mark k look_at,
       )
 
-      module _ (d : Performed) (xs' : List ℕ)
-          (reached : Reaches (queue_at m o.site) xs (get_or starts o.site 0) o.access mark xs' d)
-          (next : Next) (next_is : next ≡ (row_of width c (party_at m x).place).after d.seen) (p : Party) (p_is : p ≡ moved next) where
+      module _ {d : Performed} {xs' : List ℕ}
+          (reached : Reaches (queue_at m k.site) xs (get_or starts k.site 0) k.access mark xs' d)
+          {next : Next} (next_is : next ≡ (row_of width c (party_at m x).place).after d.seen) {p : Party} (p_is : p ≡ moved next) where
         next_at : next ≡ (row_of width (context_for m x y mark) (party_at m x).place).after d.seen
         next_at = next_is ∙ ap (λ (e : Context). (row_of width e (party_at m x).place).after d.seen) c-is
 
         abbrev machine_for : Party → Machine
-        machine_for b = record { parties = m.parties; party = set m.party x b; queue = set m.queue o.site d.queue }
+        machine_for b = record { parties = m.parties; party = set m.party x b; queue = set m.queue k.site d.queue }
 
         items_are : made.items ≡ xs'
         items_are =
-            sym (reached.items ∙ R.step_items xs g.fit who x f y x-is f-is y-is mark o look_at clear (queue_at m o.site).capacity refl
+            sym (reached.items ∙ R.step_items xs g.fit who x f y x-is f-is y-is mark k look_at (queue_at m k.site).capacity refl
             d.queue reached.slots d.seen reached.done next next_at)
 
         took : R.Took made (machine_for p) xs' next.answer
         took =
-            let t = R.step_taken xs g.fit who x f y x-is f-is y-is mark o look_at clear (queue_at m o.site).capacity refl
+            let t = R.step_taken xs g.fit who x f y x-is f-is y-is mark k look_at (queue_at m k.site).capacity refl
             d.queue reached.slots d.seen reached.done next next_at in
-            record { machine = t.machine ∙ ap machine_for (sym p_is); items = items_are; answer = t.answer; refusal = t.refusal }
+            record { machine = t.machine ∙ ap machine_for (sym p_is); items = items_are; effects = t.effects; reply = t.reply }
 
-        goes_step : (text : List ℕ) → outcome_text line' who next.answer 0 ≡ text → (out' : List ℕ) (put' : ℕ) → Wrote out put text out' put'
-            → put' ≤ put + 128 → GoesOn (machine_for p) xs' out' put'
+        goes_step : (text : List ℕ) → answer_text who next.answer ≡ text → (o' : Out) → Puts o text o'
+            → GoesOn (machine_for p) xs' o'
         goes_step text e =
             goes_on (machine_for p) xs' text
-            (λ s run. made_is s ∙ acts_taken m xs (at_line line' s) run who made took
-            ∙ ap (λ (q : List ℕ). record { state = state_of (at_line line' s) (machine_for p) xs'; text = q }) e)
-            (subst (λ (k : Machine). Fit k starts (length xs')) took.machine
+            (made_is ∙ acts_taken m xs t g.running who made took
+            ∙ ap (λ (q : List ℕ). record { state = state_of t (machine_for p) xs'; text = q }) e)
+            (subst (λ (n : Machine). Fit n starts (length xs')) took.machine
             (subst (λ (ys : List ℕ). Fit made.machine starts (length ys)) items_are (R.fit_step xs g.fit who mark)))
-            refl (ap length (sym items_are) ∙ R.length_step m xs who mark)
 
-        pub goes_step_pending : is_pending next.answer ≡ true → GoesOn (machine_for p) xs' out put
-        goes_step_pending e =
-            goes_step [] (pick_yes (is_pending next.answer) [] (answer_of who next.answer) e) out put (wrote_none out put) (omega arith)
+        pub goes_step_pending : next.answer ≡ None → GoesOn (machine_for p) xs' o
+        goes_step_pending e = goes_step [] (ap (answer_text who) e) o (puts_none o)
 
-        pub goes_step_answered : is_pending next.answer ≡ false → (out' : List ℕ) (put' : ℕ)
-            → Wrote out put (answer_of who next.answer) out' put' → put' ≤ put + 128 → GoesOn (machine_for p) xs' out' put'
-        goes_step_answered e = goes_step (answer_of who next.answer) (pick_no (is_pending next.answer) [] (answer_of who next.answer) e)
+        pub goes_step_answered : {a : Answer} → next.answer ≡ Some a → {o' : Out} → Puts o (answer_of who a) o' → GoesOn (machine_for p) xs' o'
+        goes_step_answered {a} e {o'} = goes_step (answer_of who a) (ap (answer_text who) e) o'

@@ -1,7 +1,7 @@
 -- The rest lines part by part: what is written in turns is written at once, and it ends where the definition ends.
-use Rattle.std.proofs.Common.{◌≡◌, ℕ, zero, suc, ◌+◌, ◌-◌, ◌<◌, ◌≤◌, Bool, true, false, eqb, leb, ◌⊎◌, List, [], ◌++◌, length, get_or, sym, refl, ap, ◌∙◌, ap₂, inl, inr, append_assoc, append-nil, arith, le-ltb, lt-ltb, le-leb}
-use lib.Seq.{length-sets}
-use borrow.Author.Tests.{lt-leb}
+use Rattle.std.proofs.Common.{◌≡◌, ℕ, zero, suc, ◌-◌, ◌<◌, ◌≤◌, Bool, true, false, eqb, leb, ◌⊎◌, List, [], ◌++◌, length, get_or, sym, refl, ap, ◌∙◌, ap₂, inl, inr, append_assoc, append-nil, arith, le-ltb, lt-ltb, le-leb}
+use Rattle.std.proofs.lemmas.List.{nil_from_length}
+use borrow.Author.Tests.{eqb-true, lt-leb}
 use Rattle.words.specs.Word.{pick}
 use Rattle.words.specs.Edition.{width}
 use Rattle.tables.specs.Machine.{most}
@@ -10,10 +10,12 @@ use Rattle.machine.specs.declared.rest.Resting.{Resting}
 use Rattle.machine.specs.Rest.{tokens_of}
 use Rattle.text.specs.Ascii.{ascii}
 use Rattle.text.specs.Session.{State}
-use Rattle.text.specs.Write.{Wrote, field_for, rest_head}
+use Rattle.text.specs.declared.write.Out.{Out}
+use Rattle.text.specs.Write.{Puts, room_of, field_for, rest_head}
 use Rattle.text.specs.Output.{resting_at, queues_of}
-use Rattle.text.specs.Feeding.{enough, Flow, flow, Cursor, part_of, part_at, part_after, part_next, Rested, nothing_rested, rested_after, parts_in, parts_from, last_fed, rests_in, is_written, GetsParts}
-use Rattle.text.proofs.Writing.{then, wrote_none}
+use Rattle.text.specs.declared.run.Cursor.{Cursor}
+use Rattle.text.specs.Feeding.{enough, Flow, flow, part_of, part_at, part_after, part_next, Rested, nothing_rested, rested_after, parts_in, parts_from, last_fed, rests_in, is_written, GetsParts}
+use Rattle.text.proofs.Writing.{puts_then}
 
 -- a part has a byte or more
 pub part_some : (w : ℕ) (s : Resting) (xs : List ℕ) (c : Cursor) → 1 ≤ length (part_of w s xs c)
@@ -44,12 +46,8 @@ module _ (w most : ℕ) (st : State) where
 rested_after_lem : (a b : List ℕ) (r : Rested) → rested_after a (rested_after b r) ≡ rested_after (a ++ b) r
 rested_after_lem a b r = λ i. record { flow = r.flow; at = r.at; text = sym (append_assoc a b r.text) i }
 
-pub parts_self : (st : State) (c : Cursor) (l : List ℕ) (put : ℕ) → put ≤ length l → GetsParts st c l put c l put
-parts_self st c l put h =
-    record { text = []; fuel = length l - put; parts = refl; fuelled = omega arith; wrote = wrote_none l put; room = h }
-
 -- a part more, of what rests in its queue
-module _ {st : State} {c c' : Cursor} {l l' : List ℕ} {put put' : ℕ} (g : GetsParts st c l put c' l' put') (h : enough ≤ length l - put')
+module _ {st : State} {c c' : Cursor} {o o' : Out} (g : GetsParts st c o c' o') (h : enough ≤ room_of o')
     (q : c'.queue < queues_of st) (s : Resting) (s-is : s ≡ resting_at width most st.machine c'.queue) where
   abbrev part : List ℕ
   part = part_of width s st.items c'
@@ -60,81 +58,78 @@ module _ {st : State} {c c' : Cursor} {l l' : List ℕ} {put put' : ℕ} (g : Ge
   fuel_is : g.fuel ≡ suc (g.fuel - 1)
   fuel_is = omega (arith, g.fuelled, h)
 
-  more : parts_in width most (suc (g.fuel - 1)) (length l - put') st c'
-      ≡ rested_after part (parts_in width most (g.fuel - 1) (length l - put' - length part) st (part_after s c'))
+  more : parts_in width most (suc (g.fuel - 1)) (room_of o') st c'
+      ≡ rested_after part (parts_in width most (g.fuel - 1) (room_of o' - length part) st (part_after s c'))
   more =
-      parts_more width most st (g.fuel - 1) (length l - put') c' h q
+      parts_more width most st (g.fuel - 1) (room_of o') c' h q
       ∙ ap (λ (x : Resting). rested_after (part_of width x st.items c')
-      (parts_in width most (g.fuel - 1) (length l - put' - length (part_of width x st.items c')) st (part_after x c'))) (sym s-is)
+      (parts_in width most (g.fuel - 1) (room_of o' - length (part_of width x st.items c')) st (part_after x c'))) (sym s-is)
 
-  pub parts_then : (l'' : List ℕ) (put'' : ℕ) → Wrote l' put' part l'' put'' → put'' ≤ put' + enough → (c'' : Cursor) → c'' ≡ part_after s c'
-      → GetsParts st c l put c'' l'' put''
-  parts_then l'' put'' wrote near c'' next = record {
+  pub parts_then : (o'' : Out) → Puts o' part o'' → (c'' : Cursor) → c'' ≡ part_after s c' → GetsParts st c o c'' o''
+  parts_then o'' puts c'' next = record {
     text = g.text ++ part;
     fuel = g.fuel - 1;
     parts =
-        g.parts ∙ ap (λ (n : ℕ). rested_after g.text (parts_in width most n (length l - put') st c')) fuel_is
+        g.parts ∙ ap (λ (n : ℕ). rested_after g.text (parts_in width most n (room_of o') st c')) fuel_is
         ∙ ap (rested_after g.text) more
-        ∙ rested_after_lem g.text part (parts_in width most (g.fuel - 1) (length l - put' - length part) st (part_after s c'))
+        ∙ rested_after_lem g.text part (parts_in width most (g.fuel - 1) (room_of o' - length part) st (part_after s c'))
         ∙ ap₂ (λ (n : ℕ) (x : Cursor). rested_after (g.text ++ part) (parts_in width most (g.fuel - 1) n st x)) left (sym next);
-    fuelled = omega (arith, g.fuelled, wrote.after, some, h);
-    wrote = then g.wrote wrote;
-    room = omega (arith, near, h);
+    fuelled = omega (arith, g.fuelled, puts.wrote.after, puts.long, some, h);
+    puts = puts_then g.puts puts;
   }
     where
-      left : length l - put' - length part ≡ length l - put''
-      left = omega (arith, wrote.after)
+      left : room_of o' - length part ≡ room_of o''
+      left = omega (arith, puts.wrote.after, puts.long)
 
 -- ---- the line at hand, then the parts
 
-module _ (f : Flow) (c : Cursor) (l : List ℕ) (f₁ : Flow) (l₁ : List ℕ) (put₁ : ℕ) (f₁-is : f₁ ≡ (last_fed width most (length l) f).flow)
-    (wrote₁ : Wrote l 0 (last_fed width most (length l) f).text l₁ put₁) where
+module _ (f : Flow) (c : Cursor) (o : Out) (f₁ : Flow) (o₁ : Out) (f₁-is : f₁ ≡ (last_fed width most (room_of o) f).flow)
+    (puts₁ : Puts o (last_fed width most (room_of o) f).text o₁) where
   abbrev text : List ℕ
-  text = (last_fed width most (length l) f).text
+  text = (last_fed width most (room_of o) f).text
 
   abbrev rested : Rested
-  rested = rests_in width most (length l) f c
+  rested = rests_in width most (room_of o) f c
 
   -- what a buffer has taken of the rest lines
-  pub record Rests-as (g : Flow) (c' : Cursor) (l' : List ℕ) (put : ℕ) (done : Bool) : Type 0 where
+  pub record Rests-as (g : Flow) (c' : Cursor) (o' : Out) (done : Bool) : Type 0 where
     pub flow_is : g ≡ rested.flow
     pub cursor_is : c' ≡ rested.at
-    pub wrote : Wrote l 0 rested.text l' put
+    pub puts : Puts o rested.text o'
     pub done_is : done ≡ is_written rested.flow rested.at
 
-  rests_at : (r : Rested) → parts_from width most (length l - length text) f₁ c ≡ r → rested ≡ rested_after text r
+  rests_at : (r : Rested) → parts_from width most (room_of o - length text) f₁ c ≡ r → rested ≡ rested_after text r
   unfolding rests_in
-  rests_at r e = ap (λ (g : Flow). rested_after text (parts_from width most (length l - length text) g c)) (sym f₁-is) ∙ ap (rested_after text) e
+  rests_at r e =
+      ap (λ (g : Flow). rested_after text (parts_from width most (room_of o - length text) g c)) (sym f₁-is)
+      ∙ ap (rested_after text) e
 
   -- there was no room for the line at hand
-  pub rests_held : eqb (length f₁.held) 0 ≡ false → Rests-as f₁ c l₁ put₁ false
+  pub rests_held : eqb (length f₁.held) 0 ≡ false → Rests-as f₁ c o₁ false
   rests_held e =
       let s : rested ≡ rested_after text (nothing_rested f₁ c) = rests_at (nothing_rested f₁ c) (rw e refl) in
       record {
         flow_is = ap (λ (r : Rested). r.flow) (sym s);
         cursor_is = ap (λ (r : Rested). r.at) (sym s);
-        wrote = rw (ap (λ (r : Rested). r.text) s ∙ append-nil text) wrote₁;
+        puts = rw (ap (λ (r : Rested). r.text) s ∙ append-nil text) puts₁;
         done_is = sym (ap (λ (r : Rested). is_written r.flow r.at) s ∙ rw e refl);
       }
 
-  module _ (e : eqb (length f₁.held) 0 ≡ true) (c₁ c' : Cursor) (c₁-is : c₁ ≡ c) (l' : List ℕ) (put : ℕ) (g : GetsParts f₁.state c₁ l₁ put₁ c' l' put)
-      (stop : (length l₁ - put < enough) ⊎ (queues_of f₁.state ≤ c'.queue)) where
-    room_is : length l - length text ≡ length l₁ - put₁
-    room_is = omega (arith, wrote₁.after, ap length wrote₁.bytes, length-sets l 0 text)
+  module _ (e : eqb (length f₁.held) 0 ≡ true) (c₁ c' : Cursor) (c₁-is : c₁ ≡ c) (o' : Out) (g : GetsParts f₁.state c₁ o₁ c' o')
+      (stop : (room_of o' < enough) ⊎ (queues_of f₁.state ≤ c'.queue)) where
+    room_is : room_of o - length text ≡ room_of o₁
+    room_is = omega (arith, puts₁.wrote.after, puts₁.long)
 
     all : rested ≡ rested_after text (rested_after g.text (nothing_rested (flow f₁.state []) c'))
     all =
         rests_at _
         (rw e (ap₂ (λ (n : ℕ) (x : Cursor). parts_in width most n n f₁.state x) room_is (sym c₁-is) ∙ g.parts
-        ∙ ap (rested_after g.text) (parts_stop width most f₁.state g.fuel (length l₁ - put) c' stop)))
+        ∙ ap (rested_after g.text) (parts_stop width most f₁.state g.fuel (room_of o') c' stop)))
 
-    pub rests_room : put ≤ length l
-    rests_room = omega (arith, g.room, ap length wrote₁.bytes, length-sets l 0 text)
-
-    pub rests_parts : Rests-as (flow f₁.state []) c' l' put (leb (queues_of f₁.state) c'.queue)
+    pub rests_parts : Rests-as f₁ c' o' (leb (queues_of f₁.state) c'.queue)
     rests_parts = record {
-      flow_is = ap (λ (r : Rested). r.flow) (sym all);
+      flow_is = ap (flow f₁.state) (nil_from_length f₁.held (eqb-true (length f₁.held) 0 e)) ∙ ap (λ (r : Rested). r.flow) (sym all);
       cursor_is = ap (λ (r : Rested). r.at) (sym all);
-      wrote = rw (ap (λ (r : Rested). r.text) all ∙ ap (λ (x : List ℕ). text ++ x) (append-nil g.text)) (then wrote₁ g.wrote);
+      puts = rw (ap (λ (r : Rested). r.text) all ∙ ap (λ (x : List ℕ). text ++ x) (append-nil g.text)) (puts_then puts₁ g.puts);
       done_is = sym (ap (λ (r : Rested). is_written r.flow r.at) all);
     }

@@ -2,7 +2,8 @@
 -- piece to piece and from buffer to buffer, the output at first, and at last nothing is left.
 use Rattle.std.proofs.Common.{◌≡◌, ℕ, true, List, [], ◌∷◌, ◌++◌, take, sym, refl, ap, ◌∙◌, append_assoc, append-nil}
 use Rattle.text.specs.Output.{lines_of, fresh, whole, lines_taken, output_of}
-use Rattle.text.specs.Feeding.{Cursor, fed_in, rests_in, is_written}
+use Rattle.text.specs.declared.run.Cursor.{Cursor}
+use Rattle.text.specs.Feeding.{fed_in, rests_in, is_written}
 use Rattle.text.specs.Pieces.{Piece, Sofar, beginning, fed_on, in_pieces, rested_on, in_buffers}
 use Rattle.text.proofs.Leftover.{left_feeding, fed_left, first_left}
 use Rattle.text.proofs.Ending.{left_resting, last_left, rests_left, none_left}

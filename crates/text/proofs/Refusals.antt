@@ -1,11 +1,10 @@
 -- In a running session a refused line changes nothing but the line count: a malformed or misplaced line leaves machine and items alone, so
 -- does a begin or step that the machine refuses, and a line that prints an answer or nothing was not refused.
-use Rattle.std.proofs.Common.{◌≡◌, ℕ, Bool, true, false, eqb, List, [], ◌∷◌, ◌++◌, get_or, sym, refl, ap, ◌∙◌, ap₂, true≢false, arith}
-use borrow.Author.Tests.{eqb-false}
-use Rattle.words.specs.Word.{pick}
+use Rattle.std.proofs.Common.{Option, Some, None, ◌≡◌, ℕ, zero, suc, true, List, [], ◌∷◌, ◌++◌, get_or, sym, refl, ap, ◌∙◌, ap₂, true≢false, arith}
 use Rattle.tables.specs.declared.answer.Answer.{Answer}
+use Rattle.tables.specs.declared.answer.Reply.{Reply}
 use Rattle.tables.specs.declared.state.Machine.{Machine}
-use Rattle.tables.specs.Answer.{is_pending}
+use Rattle.tables.specs.Refusal.{told}
 use Rattle.tables.specs.Step.{Outcome, of_outcome, begin, step}
 use Rattle.tables.proofs.Refused.{Unchanged, begin_unchanged, step_unchanged}
 use Rattle.text.specs.declared.Line.{Line}
@@ -13,7 +12,7 @@ use Rattle.text.specs.declared.session.Session.{Session}
 use Rattle.text.specs.declared.session.Stage.{Stage}
 use Rattle.text.specs.Line.{read_of}
 use Rattle.text.specs.Write.{answer_of, refused_of}
-use Rattle.text.specs.Session.{State, Turn, state_of, counted, is_running, is_over, outcome_text, acts, line_taken, next_of}
+use Rattle.text.specs.Session.{State, Turn, state_of, counted, is_running, is_over, answer_text, outcome_text, acts, line_taken, next_of}
 use Rattle.text.specs.Output.{after, lines_taken, rest_lines, whole}
 use Rattle.text.proofs.Leftover.{lines_more}
 
@@ -32,13 +31,13 @@ no_silence : (n code : ℕ) → [] ≡ refused_of n code → ⊥
 unfolding refused_of
 no_silence n code e = omega (arith, ap (λ (l : List ℕ). get_or l 0 0) e)
 
-outcome_refused : (line p : ℕ) (a : Answer) (k n code : ℕ) → outcome_text line p a k ≡ refused_of n code → k ≡ 0 → ⊥
-outcome_refused line p a k n code = by (eqb k 0) (is_pending a) refl
+outcome_refused : (line p : ℕ) (r : Reply) (k n code : ℕ) → outcome_text line p (told k r) ≡ refused_of n code → k ≡ 0 → ⊥
+outcome_refused line p r zero n code e d = by r.answer e
   where
-    by : (s t : Bool) → eqb k 0 ≡ s → pick s (pick t [] (answer_of p a)) (refused_of line k) ≡ refused_of n code → k ≡ 0 → ⊥
-    by true true e d = absurd (no_silence n code d)
-    by true false e d = absurd (no_answer p a n code d)
-    by false t e d = eqb-false k 0 e
+    by : (a : Option Answer) → answer_text p a ≡ refused_of n code → ⊥
+    by None e = no_silence n code e
+    by (Some a) e = no_answer p a n code e
+outcome_refused line p r (suc k) n code e d = omega arith
 
 -- a begin or a step
 outcome_left : (m : Machine) (xs : List ℕ) (s : Session) (p n code : ℕ) (o : Outcome) → s.stage ≡ Stage.Running
@@ -47,7 +46,7 @@ outcome_left : (m : Machine) (xs : List ℕ) (s : Session) (p n code : ℕ) (o :
 outcome_left m xs s p n code o g un =
     rw (ap is_running g)
     (λ e.
-    let u = un (outcome_refused s.line p o.answer o.refusal n code e) in
+    let u = un (outcome_refused s.line p _ o.refusal n code e) in
     ap₂ (λ (x : Machine) (ys : List ℕ). state_of s x ys) u.machine u.items)
 
 line_left_lem : (w most : ℕ) (m : Machine) (xs : List ℕ) (s : Session) (l : Line) (n code : ℕ) → s.stage ≡ Stage.Running

@@ -1,6 +1,7 @@
 -- Fields that stand in a block, each before a tab or, as the last, before the newline.
-use Rattle.std.proofs.Common.{◌≡◌, ℕ, suc, ◌+◌, ◌-◌, ◌*◌, ◌^◌, ◌<◌, ◌≤◌, Bool, true, false, leb, List, [], ◌∷◌, ◌++◌, map, length, get_or, take, drop, sym, refl, ap, ◌∙◌, append-nil, add-one, arith, length-append, length-drop, take-append-drop, length-take-le, get_or-drop, drop-cons, get_or-take, take-suc, drop-drop, lt-ltb, ne_eqb, le-leb, leb-true}
-use mathlib.Core.Option.{Option, some, some-injective}
+use Rattle.std.proofs.Common.{◌≡◌, ℕ, zero, suc, ◌+◌, ◌-◌, ◌*◌, ◌^◌, ◌<◌, ◌≤◌, Bool, true, false, leb, ltb, List, [], ◌∷◌, ◌++◌, length, get_or, take, drop, sym, refl, ap, ◌∙◌, append-nil, add-one, arith, length-append, length-drop, take-append-drop, length-take-le, get_or-drop, drop-cons, get_or-take, take-suc, drop-drop, lt-ltb, ltb-true, ne_eqb, le-leb, leb-true}
+use Rattle.std.specs.Prelude.{Option, Some, option_and_then}
+use Rattle.std.proofs.lemmas.Option.{same_Some}
 use lib.Seq.{take-append-add}
 use Rattle.words.specs.Word.{pick}
 use Rattle.text.specs.Bytes.{index_of, index_after}
@@ -9,12 +10,36 @@ use Rattle.tables.specs.declared.call.Mark.{Mark}
 use Rattle.tables.specs.declared.call.Rule.{Rule}
 use Rattle.text.specs.declared.Line.{Line}
 use Rattle.text.specs.Ascii.{ascii, same}
-use Rattle.text.specs.Line.{Field, field_of, onto, parted, fields, rule_of, both, aimed, aim_of, call_of, mark_of, read, step_line, begin_line, line_of, read_of, last_number}
+use Rattle.text.specs.Line.{onto, parted, at_end, rule_of, aim_of, call_of, mark_of, step_line, begin_line, line_of, read_of, last_number}
 use Rattle.text.specs.Number.{number_of, digits_of}
 use Rattle.text.specs.Find.{next_line}
 use Rattle.text.specs.Quick.{little, Loaded, clean, fields_at, Ends, Counted, Says}
-use Rattle.text.proofs.Codes.{Bytes, tail_bytes, below, below_bytes}
 use Rattle.text.proofs.Digits.{number_some, digit_read}
+
+-- ---- lists of bytes
+
+no : {A : Type 0} → false ≡ true → A
+no e = absurd (let z : ◌≡◌ {A = ℕ} 0 1 = cc in omega arith)
+
+abbrev pub Bytes : List ℕ → Type 0
+Bytes s = (i : ℕ) → i < length s → get_or s i 0 < 256
+
+tail_bytes : (x : ℕ) (s : List ℕ) → Bytes (x ∷ s) → Bytes s
+tail_bytes x s h i k = h (suc i) (omega (arith, k))
+
+abbrev pub below : List ℕ → Bool
+below [] = true
+below (b ∷ s) = pick (ltb b 256) (below s) false
+
+pub below_bytes : (s : List ℕ) → below s ≡ true → Bytes s
+below_bytes [] e i h = absurd (omega (arith, h))
+below_bytes (b ∷ s) e i h = by (ltb b 256) refl e (below_bytes s) i h
+  where
+    by : (t : Bool) → ltb b 256 ≡ t → pick t (below s) false ≡ true → (below s ≡ true → Bytes s) → (i : ℕ) → i < suc (length s)
+        → get_or (b ∷ s) i 0 < 256
+    by true k e ih zero h = ltb-true b 256 k
+    by true k e ih (suc i) h = ih e i (omega (arith, h))
+    by false k e ih i h = no e
 
 -- ---- bytes as one number
 
@@ -123,17 +148,17 @@ unfolding index_of index_after
 index_newline t = refl
 
 module _ (s : List ℕ) (at m : ℕ) (xs : List ℕ) (c : clean xs ≡ true) where
-  fields_tab : drop at s ≡ xs ++ 9 ∷ drop m s → fields_at s at ≡ field_of xs ∷ fields_at s m
-  unfolding fields_at fields
+  fields_tab : drop at s ≡ xs ++ 9 ∷ drop m s → fields_at s at ≡ xs ∷ fields_at s m
+  unfolding fields_at
   fields_tab h =
       let u : up_to (drop at s) ≡ xs ++ 9 ∷ up_to (drop m s) = ap up_to h ∙ up_over xs (9 ∷ drop m s) c ∙ rw (up_tab (drop m s)) in
-      ap (λ (l : List ℕ). map field_of (parted l)) u ∙ rw (parted_over xs (up_to (drop m s)) c)
+      ap parted u ∙ rw (parted_over xs (up_to (drop m s)) c)
 
-  fields_end : drop at s ≡ xs ++ 10 ∷ drop m s → fields_at s at ≡ field_of xs ∷ []
-  unfolding fields_at fields
+  fields_end : drop at s ≡ xs ++ 10 ∷ drop m s → fields_at s at ≡ xs ∷ []
+  unfolding fields_at
   fields_end h =
       let u : up_to (drop at s) ≡ xs = ap up_to h ∙ up_over xs (10 ∷ drop m s) c ∙ rw (up_newline (drop m s), append-nil xs) in
-      ap (λ (l : List ℕ). map field_of (parted l)) u ∙ rw (parted_only xs c)
+      ap parted u ∙ rw (parted_only xs c)
 
   ends_tab : (n : ℕ) → drop at s ≡ xs ++ 9 ∷ drop m s → m ≡ at + suc (length xs) → Ends s m n → Ends s at n
   ends_tab n h e g =
@@ -148,21 +173,21 @@ module _ (s : List ℕ) (at m : ℕ) (xs : List ℕ) (c : clean xs ≡ true) whe
       record { there = omega (arith, i, l); after = omega (arith, i) }
 
   -- what is read of a last field, and of one with more after it
-  pub says_end : {A : Type 0} (f : List Field → Option A) (a : A) (most : ℕ) → drop at s ≡ xs ++ 10 ∷ drop m s → m ≡ at + suc (length xs)
-      → m ≤ at + most → f (field_of xs ∷ []) ≡ some a → Says s at most m (f (fields_at s at)) a
+  pub says_end : {A : Type 0} (f : List (List ℕ) → Option A) (a : A) (most : ℕ) → drop at s ≡ xs ++ 10 ∷ drop m s → m ≡ at + suc (length xs)
+      → m ≤ at + most → f (xs ∷ []) ≡ Some a → Says s at most m (f (fields_at s at)) a
   says_end f a most h e n g = record { got = rw (fields_end h) g; ends = ends_end h e; near = n }
 
-  pub says_tab : {A B : Type 0} (f : List Field → Option A) (a : A) (most less next : ℕ) (inner : Option B) (b : B) → drop at s ≡ xs ++ 9 ∷ drop m s
-      → m ≡ at + suc (length xs) → m + less ≤ at + most → Says s m less next inner b → f (field_of xs ∷ fields_at s m) ≡ some a
+  pub says_tab : {A B : Type 0} (f : List (List ℕ) → Option A) (a : A) (most less next : ℕ) (inner : Option B) (b : B) → drop at s ≡ xs ++ 9 ∷ drop m s
+      → m ≡ at + suc (length xs) → m + less ≤ at + most → Says s m less next inner b → f (xs ∷ fields_at s m) ≡ Some a
       → Says s at most next (f (fields_at s at)) a
   says_tab f a most less next inner b h e n r g =
       record { got = rw (fields_tab h) g; ends = ends_tab next h e r.ends; near = omega (arith, r.near) }
 
 -- ---- numbers
 
-digits_then : (xs ys : List ℕ) (n v : ℕ) → digits_of n xs ≡ some v → digits_of n (xs ++ ys) ≡ digits_of v ys
+digits_then : (xs ys : List ℕ) (n v : ℕ) → digits_of n xs ≡ Some v → digits_of n (xs ++ ys) ≡ digits_of v ys
 unfolding digits_of
-digits_then [] ys n v e = rw (some-injective n v e)
+digits_then [] ys n v e = rw (same_Some n v e)
 digits_then (b ∷ xs) ys n v e =
     let d = digit_read n b xs v e in
     rw (le-leb 48 b d.low, le-leb b 57 d.high, lt-ltb (n * 10 + (b - 48)) (2 ^ 64) d.fits) (digits_then xs ys (n * 10 + (b - 48)) v d.rest)
@@ -173,7 +198,7 @@ clean_then (b ∷ xs) ys p q =
     let c = clean_cons b xs p in
     rw (le-leb 11 b c.0) (clean_then xs ys c.1 q)
 
-one_digit : (v d : ℕ) → d ≤ 9 → v * 10 + d < 2 ^ 64 → digits_of v ((48 + d) ∷ []) ≡ some (v * 10 + d)
+one_digit : (v d : ℕ) → d ≤ 9 → v * 10 + d < 2 ^ 64 → digits_of v ((48 + d) ∷ []) ≡ Some (v * 10 + d)
 unfolding digits_of
 one_digit v d h k =
     let z : 48 + d - 48 ≡ d = omega arith in
@@ -181,7 +206,7 @@ one_digit v d h k =
 
 -- the bytes up to i are digits, of the value v
 pub record Passed (s : List ℕ) (at i v : ℕ) : Type 0 where
-  pub number : digits_of 0 (take (i - at) (drop at s)) ≡ some v
+  pub number : digits_of 0 (take (i - at) (drop at s)) ≡ Some v
   pub digits : clean (take (i - at) (drop at s)) ≡ true
 
 pub none_passed : (s : List ℕ) (at : ℕ) → Passed s at at 0
@@ -206,7 +231,7 @@ module _ (s : List ℕ) (at i v : ℕ) (h : at ≤ i) (p : Passed s at i v) wher
         digits = rw all (clean_then (take (i - at) (drop at s)) ((48 + d) ∷ []) p.digits (rw (le-leb 11 (48 + d) (omega arith))));
       }
 
-  number_of_lem : at < i → i ≤ length s → number_of (take (i - at) (drop at s)) ≡ some v
+  number_of_lem : at < i → i ≤ length s → number_of (take (i - at) (drop at s)) ≡ Some v
   number_of_lem l k = number_some (take (i - at) (drop at s)) (λ z. omega (arith, z, length_part k)) ∙ p.number
 
   pub counted : at < i → i ≤ length s → i ≤ at + 2 → Counted s at v i
@@ -215,7 +240,7 @@ module _ (s : List ℕ) (at i v : ℕ) (h : at ≤ i) (p : Passed s at i v) wher
   pub last_said : at < i → i < length s → get_or s i 0 ≡ 10 → i - at ≤ 40 → Says s at 41 (i + 1) (last_number (fields_at s at)) v
   last_said l k e n =
       says_end s at (i + 1) (take (i - at) (drop at s)) p.digits last_number v 41 (part s at i 10 h k e) (omega (arith, length_part (omega arith)))
-      (omega arith) (number_of_lem l (omega arith))
+      (omega arith) (ap (option_and_then (at_end [])) (number_of_lem l (omega arith)))
 
 pub few_one : (s : List ℕ) (at d : ℕ) → at < length s → get_or s at 0 ≡ 48 + d → d ≤ 9 → Counted s at d (at + 1)
 few_one s at d h e k =
@@ -234,80 +259,78 @@ few_two s at d e h a k b l =
 
 -- ---- what starts with a number
 
-aim_read : (n : Field) (fs : List Field) (v : ℕ) (k : Rule) → n.number ≡ some v → rule_of fs ≡ some k
-    → aim_of (n ∷ fs) ≡ some (record { source = v; rule = k })
-aim_read n fs v k e g = ap (λ (x : Option ℕ). both x (λ source. aimed source (rule_of fs))) e ∙ ap (aimed v) g
+aim_read : (n : List ℕ) (fs : List (List ℕ)) (v : ℕ) (k : Rule) → number_of n ≡ Some v → rule_of fs ≡ Some k
+    → aim_of (n ∷ fs) ≡ Some (record { source = v; rule = k })
+aim_read n fs v k e g = rw (e, g) refl
 
-step_read : (n : Field) (fs : List Field) (v : ℕ) (k : Mark) → n.number ≡ some v → mark_of fs ≡ some k
-    → some (step_line (n ∷ fs)) ≡ some (Line.Step v k)
-step_read n fs v k e g =
-    ap some (ap (λ (x : Option ℕ). read x (λ party. read (mark_of fs) (Line.Step party))) e ∙ ap (λ (x : Option Mark). read x (Line.Step v)) g)
+step_read : (n : List ℕ) (fs : List (List ℕ)) (v : ℕ) (k : Mark) → number_of n ≡ Some v → mark_of fs ≡ Some k
+    → step_line (n ∷ fs) ≡ Some (Line.Step v k)
+step_read n fs v k e g = rw (e, g) refl
 
-begin_read : (n : Field) (fs : List Field) (v : ℕ) (k : Call) → n.number ≡ some v → call_of fs ≡ some k
-    → some (begin_line (n ∷ fs)) ≡ some (Line.Begin v k)
-begin_read n fs v k e g =
-    ap some (ap (λ (x : Option ℕ). read x (λ party. read (call_of fs) (Line.Begin party))) e ∙ ap (λ (x : Option Call). read x (Line.Begin v)) g)
+begin_read : (n : List ℕ) (fs : List (List ℕ)) (v : ℕ) (k : Call) → number_of n ≡ Some v → call_of fs ≡ Some k
+    → begin_line (n ∷ fs) ≡ Some (Line.Begin v k)
+begin_read n fs v k e g = rw (e, g) refl
 
 -- what is read of a number that is the last field, and of one with more after it
 module _ (s : List ℕ) (at v i : ℕ) (p : Counted s at v i) (k : i < length s) where
   digits_length : length (take (i - at) (drop at s)) ≡ i - at
   digits_length = length-take-le (i - at) (drop at s) (omega (arith, length-drop at s, p.more))
 
-  number_end : {A : Type 0} (f : List Field → Option A) (a : A) → get_or s i 0 ≡ 10
-      → ((n : Field) → n.number ≡ some v → f (n ∷ []) ≡ some a) → Says s at 3 (i + 1) (f (fields_at s at)) a
+  number_end : {A : Type 0} (f : List (List ℕ) → Option A) (a : A) → get_or s i 0 ≡ 10
+      → ((n : List ℕ) → number_of n ≡ Some v → f (n ∷ []) ≡ Some a) → Says s at 3 (i + 1) (f (fields_at s at)) a
   number_end f a e g =
       says_end s at (i + 1) (take (i - at) (drop at s)) p.digits f a 3 (part s at i 10 (omega (arith, p.more)) k e)
-      (omega (arith, digits_length, p.more)) (omega (arith, p.near)) (g (field_of (take (i - at) (drop at s))) p.number)
+      (omega (arith, digits_length, p.more)) (omega (arith, p.near)) (g (take (i - at) (drop at s)) p.number)
 
-  number_tab : {A B : Type 0} (f : List Field → Option A) (a : A) (most less next : ℕ) (inner : Option B) (b : B) → get_or s i 0 ≡ 9 → less + 3 ≤ most
-      → Says s (i + 1) less next inner b → ((n : Field) → n.number ≡ some v → f (n ∷ fields_at s (i + 1)) ≡ some a)
+  number_tab : {A B : Type 0} (f : List (List ℕ) → Option A) (a : A) (most less next : ℕ) (inner : Option B) (b : B) → get_or s i 0 ≡ 9 → less + 3 ≤ most
+      → Says s (i + 1) less next inner b → ((n : List ℕ) → number_of n ≡ Some v → f (n ∷ fields_at s (i + 1)) ≡ Some a)
       → Says s at most next (f (fields_at s at)) a
   number_tab f a most less next inner b e m r g =
       says_tab s at (i + 1) (take (i - at) (drop at s)) p.digits f a most less next inner b (part s at i 9 (omega (arith, p.more)) k e)
-      (omega (arith, digits_length, p.more)) (omega (arith, p.near)) r (g (field_of (take (i - at) (drop at s))) p.number)
+      (omega (arith, digits_length, p.more)) (omega (arith, p.near)) r (g (take (i - at) (drop at s)) p.number)
 
   pub aim_said : (next : ℕ) (r : Rule) → get_or s i 0 ≡ 9 → Says s (i + 1) 47 next (rule_of (fields_at s (i + 1))) r
       → Says s at 50 next (aim_of (fields_at s at)) (record { source = v; rule = r })
   aim_said next r e more = number_tab aim_of _ 50 47 next _ _ e (omega arith) more (λ n f. aim_read n (fields_at s (i + 1)) v r f more.got)
 
-  pub plain_said : get_or s i 0 ≡ 10 → Says s at 3 (i + 1) (some (step_line (fields_at s at))) (Line.Step v Mark.Plain)
-  plain_said e = number_end (λ fs. some (step_line fs)) _ e (λ n f. step_read n [] v Mark.Plain f refl)
+  pub plain_said : get_or s i 0 ≡ 10 → Says s at 3 (i + 1) (step_line (fields_at s at)) (Line.Step v Mark.Plain)
+  plain_said e = number_end step_line _ e (λ n f. step_read n [] v Mark.Plain f refl)
 
   pub mark_said : (next : ℕ) (m : Mark) → get_or s i 0 ≡ 9 → Says s (i + 1) 47 next (mark_of (fields_at s (i + 1))) m
-      → Says s at 50 next (some (step_line (fields_at s at))) (Line.Step v m)
+      → Says s at 50 next (step_line (fields_at s at)) (Line.Step v m)
   mark_said next m e more =
-      number_tab (λ fs. some (step_line fs)) _ 50 47 next _ _ e (omega arith) more (λ n f. step_read n (fields_at s (i + 1)) v m f more.got)
+      number_tab step_line _ 50 47 next _ _ e (omega arith) more (λ n f. step_read n (fields_at s (i + 1)) v m f more.got)
 
   pub call_said : (next : ℕ) (c : Call) → get_or s i 0 ≡ 9 → Says s (i + 1) 56 next (call_of (fields_at s (i + 1))) c
-      → Says s at 59 next (some (begin_line (fields_at s at))) (Line.Begin v c)
+      → Says s at 59 next (begin_line (fields_at s at)) (Line.Begin v c)
   call_said next c e more =
-      number_tab (λ fs. some (begin_line fs)) _ 59 56 next _ _ e (omega arith) more (λ n f. begin_read n (fields_at s (i + 1)) v c f more.got)
+      number_tab begin_line _ 59 56 next _ _ e (omega arith) more (λ n f. begin_read n (fields_at s (i + 1)) v c f more.got)
 
 -- ---- lines
 
-pub whole : (w : ℕ) (s : List ℕ) (from next : ℕ) (line : Line) → Says s from 121 next (some (line_of w (fields_at s from))) line
-    → record { line = line; next = next } ≡ next_line w s from
+pub whole : (w : ℕ) (s : List ℕ) (from next : ℕ) (line : Line) → Says s from 121 next (line_of w (fields_at s from)) line
+    → Some (record { line = line; next = next }) ≡ next_line w s from
 unfolding next_line read_of fields_at
 whole w s from next line r =
     let k = index_of 10 (drop from s) in
     let h : k < length (drop from s) = r.ends.there in
     let l : length (take k (drop from s)) ≡ k = length-take-le k (drop from s) (omega arith) in
-    let e : line_of w (fields (take k (drop from s))) ≡ line = some-injective _ _ r.got in
+    let e : line_of w (parted (take k (drop from s))) ≡ Some line = r.got in
     rw (lt-ltb k (length (drop from s)) h, l, le-leb k 120 (omega (arith, r.near, r.ends.after)), e, r.ends.after)
 
 pub step_line_lem : (w : ℕ) (s : List ℕ) (from less next : ℕ) (line : Line) → drop from s ≡ ascii "step" ++ 9 ∷ drop (from + 5) s → less ≤ 100
-    → Says s (from + 5) less next (some (step_line (fields_at s (from + 5)))) line → record { line = line; next = next } ≡ next_line w s from
+    → Says s (from + 5) less next (step_line (fields_at s (from + 5))) line → Some (record { line = line; next = next }) ≡ next_line w s from
 unfolding same
 step_line_lem w s from less next line h n r =
     whole w s from next line
-    (says_tab s from (from + 5) (ascii "step") refl (λ fs. some (line_of w fs)) line 121 less next _ _ h refl (omega arith) r r.got)
+    (says_tab s from (from + 5) (ascii "step") refl (line_of w) line 121 less next _ _ h refl (omega arith) r r.got)
 
 pub begin_line_lem : (w : ℕ) (s : List ℕ) (from less next : ℕ) (line : Line) → drop from s ≡ ascii "begin" ++ 9 ∷ drop (from + 6) s → less ≤ 100
-    → Says s (from + 6) less next (some (begin_line (fields_at s (from + 6)))) line → record { line = line; next = next } ≡ next_line w s from
+    → Says s (from + 6) less next (begin_line (fields_at s (from + 6))) line → Some (record { line = line; next = next }) ≡ next_line w s from
 unfolding same
 begin_line_lem w s from less next line h n r =
     whole w s from next line
-    (says_tab s from (from + 6) (ascii "begin") refl (λ fs. some (line_of w fs)) line 121 less next _ _ h refl (omega arith) r r.got)
+    (says_tab s from (from + 6) (ascii "begin") refl (line_of w) line 121 less next _ _ h refl (omega arith) r r.got)
 
 -- ---- words of four bytes and more
 

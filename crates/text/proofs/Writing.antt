@@ -1,20 +1,16 @@
 -- Runs of stores, and digits stored from the end.
-use Rattle.std.proofs.Common.{◌≡◌, ℕ, suc, ◌+◌, ◌-◌, ◌/◌, ◌%◌, ◌<◌, ◌≤◌, List, [], ◌∷◌, ◌++◌, length, get_or, take, drop, set, sym, refl, ap, ◌∙◌, append-nil, add-zero, add-suc, suc-add, add-one, arith, length-append, length-drop, length-set, take_all, drop-cons, take-suc, get_or-set_same, drop-set-lt, eq-eqb, ne_eqb}
+use Rattle.std.proofs.Common.{◌≡◌, ℕ, suc, ◌+◌, ◌-◌, ◌/◌, ◌%◌, ◌<◌, ◌≤◌, List, [], ◌∷◌, ◌++◌, length, take, drop, set, sym, refl, ap, ◌∙◌, append-nil, append_assoc, add-zero, add-suc, suc-add, add-one, arith, length-append, length-set, drop-cons, get_or-set_same, drop-set-lt, eq-eqb, ne_eqb}
 use lib.Seq.{sets}
+use borrow.Rule.Slice.PartMut.{put_mid, Post-is}
+use Rattle.std.proofs.lemmas.List.Edits.{sets-eq}
 use Rattle.text.specs.Number.{digits_to}
-use Rattle.text.specs.Write.{Wrote, field_for, fields_for}
+use Rattle.text.specs.declared.write.Out.{Out}
+use Rattle.text.specs.Write.{Wrote, Puts, field_for, fields_for}
 
 -- two runs of stores, one after the other, are one
 sets_append : (l : List ℕ) (at : ℕ) (xs ys : List ℕ) → sets (sets l at xs) (at + length xs) ys ≡ sets l at (xs ++ ys)
 sets_append l at [] ys = rw add-zero
 sets_append l at (x ∷ xs) ys = rw (add-suc, ← suc-add) (sets_append (set l at x) (suc at) xs ys)
-
--- a turn of the copy
-pub copy_more : (l : List ℕ) (at : ℕ) (s : List ℕ) (i : ℕ) → i < length s → i ≤ length s → length (take i s) ≡ i
-    → set (sets l at (take i s)) (at + i) (get_or s i 0) ≡ sets l at (take (i + 1) s)
-copy_more l at s i h k e =
-    let z = sets_append l at (take i s) (get_or s i 0 ∷ []) in
-    rw (add-one, take-suc s i 0 h) (rw e at z)
 
 -- one piece of text after another
 pub then : {l l₁ l₂ : List ℕ} {at p q : ℕ} {xs ys : List ℕ} → Wrote l at xs l₁ p → Wrote l₁ p ys l₂ q → Wrote l at (xs ++ ys) l₂ q
@@ -23,16 +19,24 @@ then {l} {l₁} {l₂} {at} {p} {q} {xs} {ys} a b = record {
   after = b.after ∙ (rw (a.after, length-append) (omega arith));
 }
 
+pub puts_then : {o o₁ o₂ : Out} {xs ys : List ℕ} → Puts o xs o₁ → Puts o₁ ys o₂ → Puts o (xs ++ ys) o₂
+puts_then a b = record { same = b.same ∙ a.same; wrote = then a.wrote b.wrote; long = b.long ∙ a.long }
+
 pub wrote_none : (l : List ℕ) (at : ℕ) → Wrote l at [] l at
 wrote_none l at = record { bytes = refl; after = sym (add-zero at) }
+
+pub puts_none : (o : Out) → Puts o [] o
+puts_none o = record { same = refl; wrote = wrote_none o.bytes.now o.put; long = refl }
 
 pub one_field : (n : ℕ) → fields_for (n ∷ []) ≡ field_for n
 unfolding fields_for
 one_field n = append-nil (field_for n)
 
-pub two_fields : (n k : ℕ) → fields_for (n ∷ k ∷ []) ≡ field_for n ++ field_for k
+pub fields_append : (a b : List ℕ) → fields_for (a ++ b) ≡ fields_for a ++ fields_for b
 unfolding fields_for
-two_fields n k = ap (λ (s : List ℕ). field_for n ++ s) (append-nil (field_for k))
+fields_append [] b = refl
+fields_append (n ∷ a) b =
+    ap (λ (s : List ℕ). field_for n ++ s) (fields_append a b) ∙ sym (append_assoc (field_for n) (fields_for a) (fields_for b))
 
 -- a store before what is kept
 front : (l : List ℕ) (j d : ℕ) → j < length l → drop j (set l j d) ≡ d ∷ drop (j + 1) l
@@ -68,11 +72,8 @@ pub digits_none : (i n : ℕ) (l : List ℕ) → i ≡ 0 → digits_to i n (drop
 unfolding digits_to
 digits_none i n l e = rw e
 
--- the digits at the end of the text, copied
-pub wrote_part : (l : List ℕ) (at : ℕ) (t : List ℕ) (i : ℕ) (l' : List ℕ) (r : ℕ) (xs : List ℕ)
-    → Wrote l at (take (20 - i) (drop i t)) l' r → length t ≡ 20 → i ≤ 20 → drop i t ≡ xs → (Wrote l at xs l' r) × (r ≤ at + 20)
-wrote_part l at t i l' r xs w e h d =
-    let n : length (drop i t) ≤ 20 - i = omega (arith, length-drop i t, e) in
-    let z : take (20 - i) (drop i t) ≡ xs = take_all (20 - i) (drop i t) n ∙ d in
-    let m : length xs ≤ 20 = omega (arith, n, ap length d) in
-    (record { bytes = w.bytes ∙ rw z; after = w.after ∙ rw z }, omega (arith, w.after, m, ap length z))
+-- bytes copied over a part are as many stores
+pub put_in : (l : List ℕ) (at : ℕ) (ys xs : List ℕ) → ys ≡ xs → at + length xs ≤ length l
+    → put_mid at (at + length xs - at) l ys ≡ sets l at xs
+put_in l at ys xs e h =
+    rw (e, Post-is at (at + length xs) l (omega arith), sets-eq xs l at h) (sym (append_assoc (take at l) xs (drop (at + length xs) l)))

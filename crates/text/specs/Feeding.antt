@@ -9,8 +9,11 @@ use Rattle.machine.specs.declared.rest.Resting.{Resting}
 use Rattle.machine.specs.Rest.{tokens_of}
 use Rattle.text.specs.Ascii.{ascii}
 use Rattle.text.specs.Session.{State, state_of}
-use Rattle.text.specs.Write.{Wrote, field_for, rest_head}
+use Rattle.text.specs.declared.write.Out.{Out}
+use Rattle.text.specs.Write.{Wrote, Puts, room_of, field_for, rest_head}
 use Rattle.text.specs.Output.{after, resting_at, queues_of}
+use Rattle.text.specs.declared.run.Held.{Held}
+use Rattle.text.specs.declared.run.Cursor.{Cursor}
 use Rattle.text.specs.declared.run.Run.{Run}
 use Rattle.text.specs.declared.run.Fed as Fed·d
 use Rattle.text.specs.declared.run.Rested as Rested·d
@@ -65,10 +68,6 @@ fed_in w most room f (b ∷ s) =
 -- ---- the end: a line at hand is taken as if its newline came, then the rest lines go out part by part
 
 -- part 0 of a queue's line is its head, the parts up to the number of tokens are these, the next is the newline
-pub record Cursor : Type 0 where
-  pub queue : ℕ
-  pub part : ℕ
-
 abbrev pub cursor : ℕ → ℕ → Cursor
 cursor q i = record { queue = q; part = i }
 
@@ -125,11 +124,14 @@ is_written f c = pick (length f.held == 0) (nat_le (queues_of f.state) c.queue) 
 
 -- ---- what the functions promise
 
+abbrev pub held_of : Held → List ℕ
+held_of h = take h.count h.bytes
+
 abbrev pub flow_of : Run → (items : List ℕ) → Flow
-flow_of r xs = flow (state_of r.session r.machine xs) (take r.count r.held)
+flow_of r xs = flow (state_of r.session r.machine xs) (held_of r.held)
 
 abbrev pub cursor_of : Run → Cursor
-cursor_of r = cursor r.queue r.part
+cursor_of r = r.at
 
 -- the run, the place in the piece and the bytes written are those of the definition; a piece of input leaves the cursor alone
 pub record Feeds (fed : Fed) (at : Cursor) (r : Fed·d.Fed) (xs l l' : List ℕ) : Type 0 where
@@ -146,21 +148,19 @@ pub record Rests (rested : Rested) (r : Rested·d.Rested) (xs l l' : List ℕ) :
   pub room : r.put ≤ length l
   pub done_is : r.done ≡ is_written rested.flow rested.at
 
--- what some functions do one after the other: from one flow and place in piece and buffer on to others, as the definition would
-pub record Gets (piece : List ℕ) (f : Flow) (used : ℕ) (l : List ℕ) (put : ℕ) (f' : Flow) (used' : ℕ) (l' : List ℕ) (put' : ℕ) : Type 0 where
+-- what some functions do one after the other: from one flow, place in the piece and buffer on to others, as the definition would
+pub record Gets (piece : List ℕ) (f : Flow) (used : ℕ) (o : Out) (f' : Flow) (used' : ℕ) (o' : Out) : Type 0 where
   pub text : List ℕ
-  pub fed : fed_in width most (length l - put) f (drop used piece)
-      ≡ fed_after text (used' - used) (fed_in width most (length l - put') f' (drop used' piece))
-  pub wrote : Wrote l put text l' put'
+  pub fed : fed_in width most (room_of o) f (drop used piece)
+      ≡ fed_after text (used' - used) (fed_in width most (room_of o') f' (drop used' piece))
+  pub puts : Puts o text o'
   pub onward : used ≤ used'
   pub within : used' ≤ length piece
-  pub room : put' ≤ length l
 
 -- the like of the rest lines' parts
-pub record GetsParts (st : State) (c : Cursor) (l : List ℕ) (put : ℕ) (c' : Cursor) (l' : List ℕ) (put' : ℕ) : Type 0 where
+pub record GetsParts (st : State) (c : Cursor) (o : Out) (c' : Cursor) (o' : Out) : Type 0 where
   pub text : List ℕ
   pub fuel : ℕ
-  pub parts : parts_in width most (length l - put) (length l - put) st c ≡ rested_after text (parts_in width most fuel (length l - put') st c')
-  pub fuelled : length l - put' ≤ fuel
-  pub wrote : Wrote l put text l' put'
-  pub room : put' ≤ length l
+  pub parts : parts_in width most (room_of o) (room_of o) st c ≡ rested_after text (parts_in width most fuel (room_of o') st c')
+  pub fuelled : room_of o' ≤ fuel
+  pub puts : Puts o text o'

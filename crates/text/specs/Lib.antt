@@ -4,7 +4,7 @@ pub mod Ascii
 pub mod Number
 pub mod Line
 pub mod Write
-pub mod View
+pub mod Fields
 pub mod Session
 pub mod Find
 pub mod Quick

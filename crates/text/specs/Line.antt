@@ -1,73 +1,17 @@
 -- A line of a schedule, from its bytes: document 01, "The schedule program".
-use Rattle.std.specs.Prelude.{ℕ, ◌^◌, Bool, true, false, List, [], ◌∷◌, map, length, drop, ◌==◌, nat_le, nat_lt}
-use Rattle.std.proofs.Math.Option
-use Rattle.std.proofs.Math.Option.{Option, none, some}
+use Prim.Native.String.{String}
+use Rattle.std.specs.Prelude.{ℕ, ◌^◌, Bool, true, false, List, [], ◌∷◌, length, ◌==◌, nat_le, nat_lt, Option, Some, None, option_map, option_and_then, unwrap_or}
 use Rattle.words.specs.Word.{pick}
 use Rattle.tables.specs.declared.call.Call.{Call}
 use Rattle.tables.specs.declared.call.Mark.{Mark}
 use Rattle.tables.specs.declared.call.Rule.{Rule}
 use Rattle.tables.specs.declared.state.Kind.{Kind}
+use Rattle.text.specs.declared.Aim.{Aim}
 use Rattle.text.specs.declared.Line.{Line}
 use Rattle.text.specs.Ascii.{ascii, same}
 use Rattle.text.specs.Number.{number_of}
 
--- ---- fields
-
-pub data Word : Type 0 where
-  machine· : Word
-  lifo· : Word
-  fifo· : Word
-  queue· : Word
-  begin· : Word
-  push· : Word
-  pop· : Word
-  extend· : Word
-  drain· : Word
-  next· : Word
-  drop· : Word
-  steal· : Word
-  take· : Word
-  spare· : Word
-  empty· : Word
-  all· : Word
-  half· : Word
-  fixed· : Word
-  given· : Word
-  step· : Word
-  weak· : Word
-  end· : Word
-
-abbrev pub spelt : Word → List ℕ
-spelt machine· = ascii "machine"
-spelt lifo· = ascii "lifo"
-spelt fifo· = ascii "fifo"
-spelt queue· = ascii "queue"
-spelt begin· = ascii "begin"
-spelt push· = ascii "push"
-spelt pop· = ascii "pop"
-spelt extend· = ascii "extend"
-spelt drain· = ascii "drain"
-spelt next· = ascii "next"
-spelt drop· = ascii "drop"
-spelt steal· = ascii "steal"
-spelt take· = ascii "take"
-spelt spare· = ascii "spare"
-spelt empty· = ascii "empty"
-spelt all· = ascii "all"
-spelt half· = ascii "half"
-spelt fixed· = ascii "fixed"
-spelt given· = ascii "given"
-spelt step· = ascii "step"
-spelt weak· = ascii "weak"
-spelt end· = ascii "end"
-
--- what a field is as a word, and as a number
-pub record Field : Type 0 where
-  pub is : Word → Bool
-  pub number : Option ℕ
-
-abbrev pub field_of : List ℕ → Field
-field_of s = record { is = λ w. same s (spelt w); number = number_of s }
+-- ---- fields: each is its bytes
 
 -- a byte before the first of some parts
 unfoldable pub onto : ℕ → List (List ℕ) → List (List ℕ)
@@ -79,126 +23,87 @@ unfoldable pub parted : List ℕ → List (List ℕ)
 parted [] = [] ∷ []
 parted (b ∷ s) = pick (b == 9) ([] ∷ parted s) (onto b (parted s))
 
-unfoldable pub fields : List ℕ → List Field
-fields s = map field_of (parted s)
-
--- the fields from a position on; none past the line's end
-unfoldable pub fields_from : List ℕ → ℕ → List Field
-fields_from s at = pick (nat_le at (length s)) (fields (drop at s)) []
+-- a field is this word
+abbrev pub is : String → List ℕ → Bool
+is word f = same f (ascii word)
 
 -- ---- what the fields say, each kind of line by the fields after its word
 
-abbrev pub ended : List Field → Bool
+abbrev pub ended : List (List ℕ) → Bool
 ended [] = true
 ended (f ∷ fs) = false
 
+-- what was read, where no field is left
+abbrev pub at_end : {A : Type 0} → List (List ℕ) → A → Option A
+at_end fs a = pick (ended fs) (Some a) None
+
 -- a number, and nothing after it
-abbrev pub last_number : List Field → Option ℕ
-last_number [] = none
-last_number (n ∷ fs) = pick (ended fs) n.number none
+abbrev pub last_number : List (List ℕ) → Option ℕ
+last_number [] = None
+last_number (n ∷ fs) = option_and_then (at_end fs) (number_of n)
 
-abbrev pub plain_rule : (Word → Bool) → Option Rule
-plain_rule is = pick (is all·) (some Rule.All) (pick (is half·) (some Rule.Half) (pick (is given·) (some Rule.Given) none))
-
-abbrev pub fixed_rule : List Field → Option Rule
-fixed_rule fs = Option.map Rule.Fixed (last_number fs)
-
-abbrev pub rule_of : List Field → Option Rule
-rule_of [] = none
-rule_of (r ∷ fs) = pick (r.is fixed·) (fixed_rule fs) (pick (ended fs) (plain_rule r.is) none)
+abbrev pub rule_of : List (List ℕ) → Option Rule
+rule_of [] = None
+rule_of (r ∷ fs) =
+    pick (is "all" r) (at_end fs Rule.All)
+    (pick (is "half" r) (at_end fs Rule.Half)
+    (pick (is "fixed" r) (option_map Rule.Fixed (last_number fs)) (pick (is "given" r) (at_end fs Rule.Given) None)))
 
 -- a source, then a rule
-pub record Aim : Type 0 where
-  pub source : ℕ
-  pub rule : Rule
+abbrev pub aim_of : List (List ℕ) → Option Aim
+aim_of [] = None
+aim_of (s ∷ fs) =
+    option_and_then (λ source. option_map (λ rule. record { source = source; rule = rule }) (rule_of fs)) (number_of s)
 
--- both, where both were read
-abbrev pub both : {A B : Type 0} → Option A → (A → Option B) → Option B
-both none next = none
-both (some a) next = next a
-
-abbrev pub aimed : ℕ → Option Rule → Option Aim
-aimed s r = Option.map (λ rule. record { source = s; rule = rule }) r
-
-abbrev pub aim_of : List Field → Option Aim
-aim_of [] = none
-aim_of (s ∷ fs) = both s.number (λ source. aimed source (rule_of fs))
-
-unfoldable pub plain_call : (Word → Bool) → Option Call
-plain_call is =
-    pick (is pop·) (some Call.Pop)
-    (pick (is extend·) (some Call.Extend)
-    (pick (is next·) (some Call.Next)
-    (pick (is drop·) (some Call.Drop) (pick (is spare·) (some Call.Spare) (pick (is empty·) (some Call.Empty) none)))))
-
-abbrev pub push_call : Option ℕ → Option Call
-push_call t = Option.map Call.Push t
-
-abbrev pub drain_call : Option Rule → Option Call
-drain_call r = Option.map Call.Drain r
-
-abbrev pub steal_call : Option Aim → Option Call
-steal_call a = Option.map (λ aim. Call.Steal aim.source aim.rule) a
-
-abbrev pub take_call : Option Aim → Option Call
-take_call a = Option.map (λ aim. Call.Take aim.source aim.rule) a
-
-abbrev pub call_of : List Field → Option Call
-call_of [] = none
+abbrev pub call_of : List (List ℕ) → Option Call
+call_of [] = None
 call_of (c ∷ fs) =
-    pick (c.is push·) (push_call (last_number fs))
-    (pick (c.is drain·) (drain_call (rule_of fs))
-    (pick (c.is steal·) (steal_call (aim_of fs))
-    (pick (c.is take·) (take_call (aim_of fs)) (pick (ended fs) (plain_call c.is) none))))
+    pick (is "push" c) (option_map Call.Push (last_number fs))
+    (pick (is "pop" c) (at_end fs Call.Pop)
+    (pick (is "extend" c) (at_end fs Call.Extend)
+    (pick (is "drain" c) (option_map Call.Drain (rule_of fs))
+    (pick (is "next" c) (at_end fs Call.Next)
+    (pick (is "drop" c) (at_end fs Call.Drop)
+    (pick (is "steal" c) (option_map (λ aim. Call.Steal aim.source aim.rule) (aim_of fs))
+    (pick (is "take" c) (option_map (λ aim. Call.Take aim.source aim.rule) (aim_of fs))
+    (pick (is "spare" c) (at_end fs Call.Spare) (pick (is "empty" c) (at_end fs Call.Empty) None)))))))))
 
-abbrev pub plain_mark : (Word → Bool) → Option Mark
-plain_mark is = pick (is weak·) (some Mark.Weak) (pick (is end·) (some Mark.End) none)
+abbrev pub mark_of : List (List ℕ) → Option Mark
+mark_of [] = Some Mark.Plain
+mark_of (m ∷ fs) =
+    pick (is "weak" m) (at_end fs Mark.Weak)
+    (pick (is "given" m) (option_map Mark.Carry (last_number fs)) (pick (is "end" m) (at_end fs Mark.End) None))
 
-abbrev pub given_mark : Option ℕ → Option Mark
-given_mark n = Option.map Mark.Carry n
+abbrev pub kind_of : List ℕ → Option Kind
+kind_of k = pick (is "lifo" k) (Some Kind.Lifo) (pick (is "fifo" k) (Some Kind.Fifo) None)
 
-abbrev pub mark_of : List Field → Option Mark
-mark_of [] = some Mark.Plain
-mark_of (m ∷ fs) = pick (m.is given·) (given_mark (last_number fs)) (pick (ended fs) (plain_mark m.is) none)
-
--- what was read, or malformed
-abbrev pub read : {A : Type 0} → Option A → (A → Line) → Line
-read none line = Line.Malformed
-read (some a) line = line a
-
-abbrev pub kind_of : (Word → Bool) → Option Kind
-kind_of is = pick (is lifo·) (some Kind.Lifo) (pick (is fifo·) (some Kind.Fifo) none)
-
-abbrev pub machine_of : Option Kind → Option ℕ → Line
-machine_of kind parties = read kind (λ k. read parties (Line.Machine k))
-
-abbrev pub machine_line : List Field → Line
-machine_line [] = Line.Malformed
-machine_line (k ∷ fs) = machine_of (kind_of k.is) (last_number fs)
+abbrev pub machine_line : List (List ℕ) → Option Line
+machine_line [] = None
+machine_line (k ∷ fs) = option_and_then (λ kind. option_map (Line.Machine kind) (last_number fs)) (kind_of k)
 
 -- a position has w bits
-abbrev pub queue_of : ℕ → ℕ → Option ℕ → Line
-queue_of w request position = read position (λ p. pick (nat_lt p (2 ^ w)) (Line.Queue request p) Line.Malformed)
+abbrev pub position_of : ℕ → ℕ → Option ℕ
+position_of w p = pick (nat_lt p (2 ^ w)) (Some p) None
 
-abbrev pub queue_line : ℕ → List Field → Line
-queue_line w [] = Line.Malformed
-queue_line w (r ∷ fs) = read r.number (λ request. queue_of w request (last_number fs))
+abbrev pub queue_line : ℕ → List (List ℕ) → Option Line
+queue_line w [] = None
+queue_line w (r ∷ fs) =
+    option_and_then (λ request. option_map (Line.Queue request) (option_and_then (position_of w) (last_number fs))) (number_of r)
 
-abbrev pub begin_line : List Field → Line
-begin_line [] = Line.Malformed
-begin_line (p ∷ fs) = read p.number (λ party. read (call_of fs) (Line.Begin party))
+abbrev pub begin_line : List (List ℕ) → Option Line
+begin_line [] = None
+begin_line (p ∷ fs) = option_and_then (λ party. option_map (Line.Begin party) (call_of fs)) (number_of p)
 
-abbrev pub step_line : List Field → Line
-step_line [] = Line.Malformed
-step_line (p ∷ fs) = read p.number (λ party. read (mark_of fs) (Line.Step party))
+abbrev pub step_line : List (List ℕ) → Option Line
+step_line [] = None
+step_line (p ∷ fs) = option_and_then (λ party. option_map (Line.Step party) (mark_of fs)) (number_of p)
 
-abbrev pub line_of : ℕ → List Field → Line
-line_of w [] = Line.Malformed
+abbrev pub line_of : ℕ → List (List ℕ) → Option Line
+line_of w [] = None
 line_of w (l ∷ fs) =
-    pick (l.is step·) (step_line fs)
-    (pick (l.is begin·) (begin_line fs)
-    (pick (l.is queue·) (queue_line w fs) (pick (l.is machine·) (machine_line fs) Line.Malformed)))
+    pick (is "step" l) (step_line fs)
+    (pick (is "begin" l) (begin_line fs) (pick (is "queue" l) (queue_line w fs) (pick (is "machine" l) (machine_line fs) None)))
 
 -- a line, its newline apart
 unfoldable pub read_of : ℕ → List ℕ → Line
-read_of w s = pick (nat_le (length s) 120) (line_of w (fields s)) Line.Malformed
+read_of w s = pick (nat_le (length s) 120) (unwrap_or (line_of w (parted s)) Line.Malformed) Line.Malformed

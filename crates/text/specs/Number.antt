@@ -1,18 +1,17 @@
 -- Numbers as decimal digits, read and written.
-use Rattle.std.specs.Prelude.{ℕ, zero, suc, ◌+◌, ◌-◌, ◌*◌, ◌/◌, ◌%◌, ◌^◌, List, [], ◌∷◌, ◌==◌, nat_le, nat_lt}
-use Rattle.std.proofs.Math.Option.{Option, none, some}
+use Rattle.std.specs.Prelude.{ℕ, zero, suc, ◌+◌, ◌-◌, ◌*◌, ◌/◌, ◌%◌, ◌^◌, List, [], ◌∷◌, ◌==◌, nat_le, nat_lt, Option, Some, None}
 use Rattle.words.specs.Word.{pick}
 
 -- digits after those that make n: each is `0` to `9`, and the number stays below 2 ^ 64
 unfoldable pub digits_of : ℕ → List ℕ → Option ℕ
-digits_of n [] = some n
+digits_of n [] = Some n
 digits_of n (b ∷ s) =
     pick (nat_le 48 b)
-    (pick (nat_le b 57) (pick (nat_lt (n * 10 + (b - 48)) (2 ^ 64)) (digits_of (n * 10 + (b - 48)) s) none) none) none
+    (pick (nat_le b 57) (pick (nat_lt (n * 10 + (b - 48)) (2 ^ 64)) (digits_of (n * 10 + (b - 48)) s) None) None) None
 
 -- a number: at least one digit
 unfoldable pub number_of : List ℕ → Option ℕ
-number_of [] = none
+number_of [] = None
 number_of (b ∷ s) = digits_of 0 (b ∷ s)
 
 -- the last digits of n, at most f of them, before `after`

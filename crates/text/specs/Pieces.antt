@@ -2,7 +2,8 @@
 -- together, is the output of the whole input.
 use Rattle.std.specs.Prelude.{ℕ, List, [], ◌∷◌, ◌++◌, take, drop}
 use Rattle.text.specs.Output.{fresh}
-use Rattle.text.specs.Feeding.{Flow, flow, Cursor, cursor, Fed, fed_in, Rested, rests_in}
+use Rattle.text.specs.declared.run.Cursor.{Cursor}
+use Rattle.text.specs.Feeding.{Flow, flow, cursor, Fed, fed_in, Rested, rests_in}
 
 -- a piece of input, so many of the bytes that are still to come, and the room in the buffer that is lent with it
 pub record Piece : Type 0 where

@@ -1,18 +1,20 @@
 -- A run of the schedule program, line by line: document 01, "The schedule program". w is the width, `most` the party limit.
-use Rattle.std.specs.Prelude.{◌≡◌, ℕ, zero, suc, ◌+◌, ◌-◌, ◌^◌, ◌≤◌, Bool, true, false, List, [], ◌∷◌, length, ◌==◌, nat_le, nat_lt, slice_set}
+use Rattle.std.specs.Prelude.{◌≡◌, ℕ, zero, suc, ◌+◌, ◌-◌, ◌^◌, ◌≤◌, Bool, true, false, List, [], ◌∷◌, length, ◌==◌, nat_le, nat_lt, slice_set, Option, Some, None, Result, Ok, Err}
 use Rattle.words.specs.Word.{pick, plus}
+use Rattle.tables.specs.declared.answer.Refusal.{Refusal}
 use Rattle.tables.specs.declared.answer.Answer.{Answer}
+use Rattle.tables.specs.declared.answer.Reply.{Reply}
 use Rattle.tables.specs.declared.state.Kind.{Kind}
 use Rattle.tables.specs.declared.state.Machine.{Machine}
-use Rattle.tables.specs.Answer.{is_pending}
 use Rattle.tables.specs.declared.call.Act.TheVariants as Act
-use Rattle.tables.specs.declared.state.Opened.{Opened}
-use Rattle.tables.specs.Step.{andb, every_kind, opening, Result, acted}
+use Rattle.tables.specs.Refusal.{number_of}
+use Rattle.tables.specs.Step.{andb, every_kind, Opening, opening, AfterAct, acted}
 use Rattle.text.specs.declared.Line.{Line}
 use Rattle.text.specs.declared.session.Session.{Session}
 use Rattle.text.specs.declared.session.Stage.{Stage}
 use Rattle.text.specs.Line.{read_of}
-use Rattle.text.specs.Write.{Wrote, answer_of, refused_of}
+use Rattle.text.specs.declared.write.Out.{Out}
+use Rattle.text.specs.Write.{Puts, answer_of, refused_of}
 
 abbrev pub wants_machine : Stage → Bool
 wants_machine Stage.MachineLine = true
@@ -145,7 +147,7 @@ queue_asked s r p = record {
 abbrev pub stays : Machine → (items : List ℕ) → Said → Turn
 stays m xs x = record { state = record { session = x.session; machine = m; items = xs }; text = x.text }
 
-abbrev pub opened_as : Machine → (items : List ℕ) → Session → Opened → Turn
+abbrev pub opened_as : Machine → (items : List ℕ) → Session → Opening → Turn
 opened_as m xs s o =
     pick (o.refusal == 0)
     (record { state = record { session = at_stage Stage.Running s; machine = o.machine; items = xs }; text = [] })
@@ -168,16 +170,21 @@ queue_taken w most m xs s r p =
 
 -- ---- the run
 
--- a refusal, or the answer if the call has come to one
-abbrev pub outcome_text : (line party : ℕ) → Answer → (refusal : ℕ) → List ℕ
-outcome_text line p answer refusal = pick (refusal == 0) (pick (is_pending answer) [] (answer_of p answer)) (refused_of line refusal)
+-- the answer if the call has come to one, or a refusal
+abbrev pub answer_text : (party : ℕ) → Option Answer → List ℕ
+answer_text p None = []
+answer_text p (Some a) = answer_of p a
 
-abbrev pub acts : Machine → (items : List ℕ) → Session → (party : ℕ) → Result → Turn
+abbrev pub outcome_text : (line party : ℕ) → Result Reply Refusal → List ℕ
+outcome_text line p (Ok r) = answer_text p r.answer
+outcome_text line p (Err e) = refused_of line (number_of e)
+
+abbrev pub acts : Machine → (items : List ℕ) → Session → (party : ℕ) → AfterAct → Turn
 acts m xs s p r =
     pick (is_running s.stage)
     (record {
       state = record { session = s; machine = r.machine; items = r.items };
-      text = outcome_text s.line p r.reply.answer r.reply.refusal;
+      text = outcome_text s.line p r.reply;
     })
     (stays m xs (misplaced s))
 
@@ -196,13 +203,13 @@ next_of w most m xs s line = line_taken w most m xs (counted s) (read_of w line)
 
 -- ---- what the functions promise
 
--- the text stands in the buffer, and all else there is kept
-pub record Told (said : Said) (session : Session) (l : List ℕ) (at : ℕ) (l' : List ℕ) (r : ℕ) : Type 0 where
+-- the text is put into the buffer, and all else there is kept
+pub record Told (said : Said) (session : Session) (o o' : Out) : Type 0 where
   pub session_is : session ≡ said.session
-  pub wrote : Wrote l at said.text l' r
-  pub near : r ≤ at + 128
+  pub puts : Puts o said.text o'
+  pub near : o'.put ≤ o.put + 128
 
-pub record Took (turn : Turn) (state : State) (l : List ℕ) (at : ℕ) (l' : List ℕ) (r : ℕ) : Type 0 where
+pub record Took (turn : Turn) (state : State) (o o' : Out) : Type 0 where
   pub state_is : state ≡ turn.state
-  pub wrote : Wrote l at turn.text l' r
-  pub near : r ≤ at + 128
+  pub puts : Puts o turn.text o'
+  pub near : o'.put ≤ o.put + 128

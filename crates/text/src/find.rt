@@ -3,25 +3,21 @@ ghost use Rattle.std.specs.Prelude.{◌≡◌, ◌≤◌, length};
 ghost use Rattle.words.specs.Edition.{width};
 ghost use Rattle.text.specs.Find.{next_line};
 
-use super::{Found, Line, quick, read, scan};
+use super::{Found, quick, read, scan};
 
-pub fn next_line(s: &[u8], from: usize) -> Found
+pub fn next_line(s: &[u8], from: usize) -> Option<Found>
     requires { from ≤ length s.now }
     ensures { result ≡ next_line width s.now from }
 {
-    let quick = quick::quick(s, from);
-    if quick.next != from {
-        return quick;
+    if let Some(found) = quick::quick(s, from) {
+        return Some(found);
     }
-    let end = scan::find(s, from, s.len(), 10);
+    let end = scan::find(s, from, s.len(), b'\n');
     if end == s.len() {
-        return Found {
-            line: Line::Malformed,
-            next: from,
-        };
+        return None;
     }
-    Found {
+    Some(Found {
         line: read::read_line(&s[from..end]),
         next: end + 1,
-    }
+    })
 }

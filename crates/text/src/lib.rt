@@ -1,7 +1,7 @@
 // The text side of the schedule program: its lines read, its answers written.
 #![tactic(auto)]
 
-use tables::call::{Call, Mark};
+use tables::call::{Call, Mark, Rule};
 use tables::state::Kind;
 
 mod scan; // where a byte first stands
@@ -13,16 +13,23 @@ mod lines; // many lines of a piece, the machine in one local
 mod session; // a run, line by line
 pub mod run; // a run whole, in pieces of input and output
 
+// A source, then a rule.
+#[derive(Clone, Copy)]
+pub struct Aim {
+    pub source: u64,
+    pub rule: Rule,
+}
+
 #[derive(Clone, Copy)]
 pub enum Line {
     Machine(Kind, u64),
-    Queue(u64, u32),
+    Queue { request: u64, position: u32 },
     Begin(u64, Call),
     Step(u64, Mark),
     Malformed,
 }
 
-// A line found in a block of input, and where the next one starts: where it was looked for, if no newline is left.
+// A line found in a block of input, and where the next one starts.
 #[derive(Clone, Copy)]
 pub struct Found {
     pub line: Line,

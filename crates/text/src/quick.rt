@@ -1,14 +1,16 @@
-// The commonest lines, read where they stand in a block, in one pass. A `next` that has not moved says nothing.
+// The commonest lines, read where they stand in a block, in one pass. Each reader answers what it read and where it stopped; `None` says
+// nothing, and the line is read field by field. Readers are handed the block and a place in it: where they stop is a place too, and the
+// rest of the block in its stead would be no plainer.
 ghost use Rattle.std.specs.Prelude.{◌+◌, ◌≤◌, length};
 ghost use Rattle.words.specs.Edition.{width};
 ghost use Rattle.text.specs.Ascii.{ascii};
 ghost use Rattle.text.specs.Find.{Quick};
 ghost use Rattle.text.specs.Quick as Q;
 
-use super::{Found, Line, read};
+use super::{Aim, Found, Line};
 use tables::call::{Call, Mark, Rule};
 
-// Bytes that stand together as one number, the first lowest.
+// Bytes that stand together as one number, the first lowest: one comparison for all of them, where a byte string costs one each.
 const STEP: u64 = 0x70_65_74_73;
 
 const BEGI: u64 = 0x69_67_65_62;
@@ -59,45 +61,13 @@ const WEAK: u64 = 0x6b_61_65_77;
 
 const END: u64 = 0x0a_64_6e_65;
 
-// A number, and where its digits end.
-#[derive(Clone, Copy)]
-pub struct Digits {
-    pub value: u64,
-    pub next: usize,
-}
-
-#[derive(Clone, Copy)]
-pub struct Ruling {
-    pub rule: Rule,
-    pub next: usize,
-}
-
-#[derive(Clone, Copy)]
-pub struct Aiming {
-    pub source: u64,
-    pub rule: Rule,
-    pub next: usize,
-}
-
-#[derive(Clone, Copy)]
-pub struct Calling {
-    pub call: Call,
-    pub next: usize,
-}
-
-#[derive(Clone, Copy)]
-pub struct Marking {
-    pub mark: Mark,
-    pub next: usize,
-}
-
 // ---- bytes
 
 fn two(s: &[u8], at: usize) -> u64
     requires { at + 2 ≤ length s.now }
     ensures { Q.Loaded 2 s.now at result }
 {
-    read::wide(s[at]) + read::wide(s[at + 1]) * 256
+    s[at] as u64 + s[at + 1] as u64 * 256
 }
 
 fn four(s: &[u8], at: usize) -> u64
@@ -110,407 +80,177 @@ fn four(s: &[u8], at: usize) -> u64
 // ---- numbers
 
 // One digit or two.
-fn few(s: &[u8], at: usize) -> Digits
+fn few(s: &[u8], at: usize) -> Option<(u64, usize)>
     requires { at + 3 ≤ length s.now }
     ensures { Q.Few s.now at result }
 {
-    let d = read::wide(std::num::wrapping_sub_u8(s[at], 48));
+    let d = s[at].wrapping_sub(b'0') as u64;
     if 9 < d {
-        return Digits { value: 0, next: at };
+        return None;
     }
-    let e = read::wide(std::num::wrapping_sub_u8(s[at + 1], 48));
+    let e = s[at + 1].wrapping_sub(b'0') as u64;
     if 9 < e {
-        return Digits {
-            value: d,
-            next: at + 1,
-        };
+        return Some((d, at + 1));
     }
-    Digits {
-        value: d * 10 + e,
-        next: at + 2,
-    }
+    Some((d * 10 + e, at + 2))
 }
 
 // As many as forty, and the newline.
-fn last(s: &[u8], at: usize) -> Digits
+fn last(s: &[u8], at: usize) -> Option<(u64, usize)>
     requires { at ≤ length s.now }
     ensures { Q.Last s.now at result }
 {
-    let no = Digits { value: 0, next: at };
-    let mut i = at;
     let mut value: u64 = 0;
-    while i < s.len() {
-        let b = s[i];
-        let d = read::wide(std::num::wrapping_sub_u8(b, 48));
+    for i in at..s.len() {
+        let d = s[i].wrapping_sub(b'0') as u64;
         if 9 < d {
-            if b != 10 {
-                return no;
+            if s[i] == b'\n' && at < i && i - at <= 40 {
+                return Some((value, i + 1));
             }
-            if i == at {
-                return no;
-            }
-            if 40 < i - at {
-                return no;
-            }
-            return Digits {
-                value: value,
-                next: i + 1,
-            };
+            return None;
         }
-        if 1844674407370955160 <= value {
-            return no;
-        }
-        value = value * 10 + d;
-        i += 1;
+        value = value.checked_mul(10)?.checked_add(d)?;
     }
-    no
+    None
 }
 
 // ---- rules
 
-fn rule(s: &[u8], at: usize) -> Ruling
+fn rule(s: &[u8], at: usize) -> Option<(Rule, usize)>
     requires { at + 8 ≤ length s.now }
     ensures { Q.RuleAt s.now at result }
 {
-    let no = Ruling {
-        rule: Rule::All,
-        next: at,
-    };
-    let w = four(s, at);
-    match w {
-        HALF => {
-            if s[at + 4] == 10 {
-                Ruling {
-                    rule: Rule::Half,
-                    next: at + 5,
-                }
-            } else {
-                no
-            }
+    match four(s, at) {
+        HALF if s[at + 4] == b'\n' => Some((Rule::Half, at + 5)),
+        ALL => Some((Rule::All, at + 4)),
+        GIVE if two(s, at + 4) == N_END => Some((Rule::Given, at + 6)),
+        FIXE if two(s, at + 4) == D_TAB => {
+            let (k, next) = last(s, at + 6)?;
+            Some((Rule::Fixed(k), next))
         }
-        ALL => Ruling {
-            rule: Rule::All,
-            next: at + 4,
-        },
-        GIVE => {
-            if two(s, at + 4) == N_END {
-                Ruling {
-                    rule: Rule::Given,
-                    next: at + 6,
-                }
-            } else {
-                no
-            }
-        }
-        FIXE => {
-            if two(s, at + 4) == D_TAB {
-                let n = last(s, at + 6);
-                if n.next == at + 6 {
-                    no
-                } else {
-                    Ruling {
-                        rule: Rule::Fixed(n.value),
-                        next: n.next,
-                    }
-                }
-            } else {
-                no
-            }
-        }
-        _ => no,
+        _ => None,
     }
 }
 
-// A source, then a rule.
-fn aim(s: &[u8], at: usize) -> Aiming
+fn aim(s: &[u8], at: usize) -> Option<(Aim, usize)>
     requires { at + 11 ≤ length s.now }
     ensures { Q.AimAt s.now at result }
 {
-    let no = Aiming {
-        source: 0,
-        rule: Rule::All,
-        next: at,
-    };
-    let n = few(s, at);
-    let end = n.next;
-    if end == at {
-        return no;
+    let (source, end) = few(s, at)?;
+    if s[end] != b'\t' {
+        return None;
     }
-    if s[end] != 9 {
-        return no;
-    }
-    let r = rule(s, end + 1);
-    let k = r.rule;
-    if r.next == end + 1 {
-        return no;
-    }
-    Aiming {
-        source: n.value,
-        rule: k,
-        next: r.next,
-    }
+    let (rule, next) = rule(s, end + 1)?;
+    Some((Aim { source, rule }, next))
 }
 
 // ---- calls
 
-fn call(s: &[u8], at: usize) -> Calling
+fn call(s: &[u8], at: usize) -> Option<(Call, usize)>
     requires { at + 17 ≤ length s.now }
     ensures { Q.CallAt s.now at result }
 {
-    let no = Calling {
-        call: Call::Pop,
-        next: at,
-    };
-    let w = four(s, at);
-    match w {
-        PUSH => {
-            if s[at + 4] != 9 {
-                return no;
-            }
-            let n = last(s, at + 5);
-            if n.next == at + 5 {
-                return no;
-            }
-            Calling {
-                call: Call::Push(n.value),
-                next: n.next,
-            }
+    match four(s, at) {
+        PUSH if s[at + 4] == b'\t' => {
+            let (token, next) = last(s, at + 5)?;
+            Some((Call::Push(token), next))
         }
-        POP => Calling {
-            call: Call::Pop,
-            next: at + 4,
-        },
-        STEA => {
-            if two(s, at + 4) != L_TAB {
-                return no;
-            }
-            let a = aim(s, at + 6);
-            let k = a.rule;
-            if a.next == at + 6 {
-                return no;
-            }
-            Calling {
-                call: Call::Steal {
-                    source: a.source,
-                    rule: k,
-                },
-                next: a.next,
-            }
+        POP => Some((Call::Pop, at + 4)),
+        STEA if two(s, at + 4) == L_TAB => {
+            let (Aim { source, rule }, next) = aim(s, at + 6)?;
+            Some((Call::Steal { source, rule }, next))
         }
-        NEXT => {
-            if s[at + 4] != 10 {
-                return no;
-            }
-            Calling {
-                call: Call::Next,
-                next: at + 5,
-            }
+        NEXT if s[at + 4] == b'\n' => Some((Call::Next, at + 5)),
+        TAKE if s[at + 4] == b'\t' => {
+            let (Aim { source, rule }, next) = aim(s, at + 5)?;
+            Some((Call::Take { source, rule }, next))
         }
-        TAKE => {
-            if s[at + 4] != 9 {
-                return no;
-            }
-            let a = aim(s, at + 5);
-            let k = a.rule;
-            if a.next == at + 5 {
-                return no;
-            }
-            Calling {
-                call: Call::Take {
-                    source: a.source,
-                    rule: k,
-                },
-                next: a.next,
-            }
+        EXTE if two(s, at + 4) == ND && s[at + 6] == b'\n' => Some((Call::Extend, at + 7)),
+        DRAI if two(s, at + 4) == N_TAB => {
+            let (rule, next) = rule(s, at + 6)?;
+            Some((Call::Drain(rule), next))
         }
-        EXTE => {
-            if two(s, at + 4) != ND {
-                return no;
-            }
-            if s[at + 6] != 10 {
-                return no;
-            }
-            Calling {
-                call: Call::Extend,
-                next: at + 7,
-            }
-        }
-        DRAI => {
-            if two(s, at + 4) != N_TAB {
-                return no;
-            }
-            let r = rule(s, at + 6);
-            let k = r.rule;
-            if r.next == at + 6 {
-                return no;
-            }
-            Calling {
-                call: Call::Drain(k),
-                next: r.next,
-            }
-        }
-        DROP => {
-            if s[at + 4] != 10 {
-                return no;
-            }
-            Calling {
-                call: Call::Drop,
-                next: at + 5,
-            }
-        }
-        EMPT => {
-            if two(s, at + 4) != Y_END {
-                return no;
-            }
-            Calling {
-                call: Call::Empty,
-                next: at + 6,
-            }
-        }
-        SPAR => {
-            if two(s, at + 4) != E_END {
-                return no;
-            }
-            Calling {
-                call: Call::Spare,
-                next: at + 6,
-            }
-        }
-        _ => no,
+        DROP if s[at + 4] == b'\n' => Some((Call::Drop, at + 5)),
+        EMPT if two(s, at + 4) == Y_END => Some((Call::Empty, at + 6)),
+        SPAR if two(s, at + 4) == E_END => Some((Call::Spare, at + 6)),
+        _ => None,
     }
 }
 
 // ---- marks
 
-fn mark(s: &[u8], at: usize) -> Marking
+fn mark(s: &[u8], at: usize) -> Option<(Mark, usize)>
     requires { at + 8 ≤ length s.now }
     ensures { Q.MarkAt s.now at result }
 {
-    let no = Marking {
-        mark: Mark::Plain,
-        next: at,
-    };
-    let w = four(s, at);
-    match w {
-        END => Marking {
-            mark: Mark::End,
-            next: at + 4,
-        },
-        WEAK => {
-            if s[at + 4] != 10 {
-                return no;
-            }
-            Marking {
-                mark: Mark::Weak,
-                next: at + 5,
-            }
+    match four(s, at) {
+        END => Some((Mark::End, at + 4)),
+        WEAK if s[at + 4] == b'\n' => Some((Mark::Weak, at + 5)),
+        GIVE if two(s, at + 4) == N_TAB => {
+            let (given, next) = last(s, at + 6)?;
+            Some((Mark::Carry(given), next))
         }
-        GIVE => {
-            if two(s, at + 4) != N_TAB {
-                return no;
-            }
-            let n = last(s, at + 6);
-            if n.next == at + 6 {
-                return no;
-            }
-            Marking {
-                mark: Mark::Carry(n.value),
-                next: n.next,
-            }
-        }
-        _ => no,
+        _ => None,
     }
 }
 
 // ---- lines
 
-fn step(s: &[u8], from: usize) -> Found
+fn step(s: &[u8], from: usize) -> Option<Found>
     requires within { from + 32 ≤ length s.now }
     requires stands { Q.Stands s.now from (ascii "step") }
     ensures { Quick width s.now from result }
 {
-    let no = Found {
-        line: Line::Malformed,
-        next: from,
-    };
-    if s[from + 4] != 9 {
-        return no;
+    if s[from + 4] != b'\t' {
+        return None;
     }
-    let n = few(s, from + 5);
-    let end = n.next;
-    if end == from + 5 {
-        return no;
-    }
-    let b = s[end];
-    if b == 10 {
-        return Found {
-            line: Line::Step(n.value, Mark::Plain),
+    let (party, end) = few(s, from + 5)?;
+    match s[end] {
+        b'\n' => Some(Found {
+            line: Line::Step(party, Mark::Plain),
             next: end + 1,
-        };
-    }
-    if b != 9 {
-        return no;
-    }
-    let m = mark(s, end + 1);
-    let k = m.mark;
-    if m.next == end + 1 {
-        return no;
-    }
-    Found {
-        line: Line::Step(n.value, k),
-        next: m.next,
+        }),
+        b'\t' => {
+            let (mark, next) = mark(s, end + 1)?;
+            Some(Found {
+                line: Line::Step(party, mark),
+                next,
+            })
+        }
+        _ => None,
     }
 }
 
-fn begin(s: &[u8], from: usize) -> Found
+fn begin(s: &[u8], from: usize) -> Option<Found>
     requires within { from + 32 ≤ length s.now }
     requires stands { Q.Stands s.now from (ascii "begi") }
     ensures { Quick width s.now from result }
 {
-    let no = Found {
-        line: Line::Malformed,
-        next: from,
-    };
     if two(s, from + 4) != N_TAB {
-        return no;
+        return None;
     }
-    let n = few(s, from + 6);
-    let end = n.next;
-    if end == from + 6 {
-        return no;
+    let (party, end) = few(s, from + 6)?;
+    if s[end] != b'\t' {
+        return None;
     }
-    if s[end] != 9 {
-        return no;
-    }
-    let c = call(s, end + 1);
-    let k = c.call;
-    if c.next == end + 1 {
-        return no;
-    }
-    Found {
-        line: Line::Begin(n.value, k),
-        next: c.next,
-    }
+    let (call, next) = call(s, end + 1)?;
+    Some(Found {
+        line: Line::Begin(party, call),
+        next,
+    })
 }
 
 // The `step` and `begin` lines that are neither near the block's end nor of parties over 99.
-pub fn quick(s: &[u8], from: usize) -> Found
+pub fn quick(s: &[u8], from: usize) -> Option<Found>
     requires { from ≤ length s.now }
     ensures { Quick width s.now from result }
 {
-    let no = Found {
-        line: Line::Malformed,
-        next: from,
-    };
     if s.len() - from < 32 {
-        return no;
+        return None;
     }
-    let w = four(s, from);
-    if w == STEP {
-        return step(s, from);
+    match four(s, from) {
+        STEP => step(s, from),
+        BEGI => begin(s, from),
+        _ => None,
     }
-    if w == BEGI {
-        return begin(s, from);
-    }
-    no
 }

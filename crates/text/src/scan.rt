@@ -9,12 +9,8 @@ pub fn find(s: &[u8], from: usize, end: usize, byte: u8) -> usize
     ensures index { result ≡ from + index_of byte (slice from end s.now) }
     ensures bound { result ≤ end }
 {
-    let mut at = from;
-    while at < end {
-        if s[at] == byte {
-            return at;
-        }
-        at += 1;
+    match s[from..end].iter().position(|&b| b == byte) {
+        Some(before) => from + before,
+        None => end,
     }
-    end
 }

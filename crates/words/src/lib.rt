@@ -20,7 +20,7 @@ pub struct Halves {
     pub low: u32,
 }
 
-// Pack two short integers into a long one, so that both change in one exchange.
+// Pack two short integers into a long one, so that both change in one exchange. pack and unpack are st3's own, under its names.
 pub fn pack(high: u32, low: u32) -> u64
     ensures { result ≡ packed width high low }
 {
@@ -41,28 +41,28 @@ pub fn unpack(word: u64) -> Halves
 pub fn add(a: u32, b: u32) -> u32
     ensures { result ≡ plus width a b }
 {
-    std::num::wrapping_add_u32(a, b)
+    a.wrapping_add(b)
 }
 
 // The way from b on to a, also where a has turned over since.
 pub fn sub(a: u32, b: u32) -> u32
     ensures { result ≡ minus width a b }
 {
-    std::num::wrapping_sub_u32(a, b)
+    a.wrapping_sub(b)
 }
 
 // The largest word.
 pub fn largest() -> u32
     ensures { result ≡ 2 ^ width - 1 }
 {
-    0xffff_ffff
+    u32::MAX
 }
 
 // Whether a number is a word: a position is one.
 pub fn is_word(n: u64) -> bool
     ensures { result ≡ nat_lt n (2 ^ width) }
 {
-    n < 0x1_0000_0000
+    u32::try_from(n).is_ok()
 }
 
 // The largest capacity.
@@ -84,7 +84,7 @@ pub fn slot_of(at: Position, capacity: u32) -> Slot
 pub fn is_capacity(c: u32) -> bool
     ensures { result ≡ pow_below width c }
 {
-    if c == 0 { false } else { c & (c - 1) == 0 }
+    c != 0 && c & (c - 1) == 0
 }
 
 // The capacity for a request: the next power of two. What the leading zeros of the number before the request leave of its 64 digits
@@ -104,10 +104,5 @@ pub fn capacity(request: u64) -> u32
 pub fn least(rule: u64, limit: u32, n: u32) -> u32
     ensures { result ≡ least_of rule limit n }
 {
-    let most = if limit < n { limit } else { n };
-    if rule < (most as u64) {
-        rule as u32
-    } else {
-        most
-    }
+    rule.min(limit.min(n) as u64) as u32
 }

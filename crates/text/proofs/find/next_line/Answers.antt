@@ -1,4 +1,4 @@
--- A quick answer that has moved is right; else the first newline ends the line.
+-- A quick answer is right; else the first newline ends the line.
 use Rattle.std.proofs.Common.{arith}
 use Rattle.text.proofs.Finding.{found_none, found_line}
 use Rattle.text.proofs.find.next_line.Goals as goal

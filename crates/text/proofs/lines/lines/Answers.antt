@@ -1,143 +1,120 @@
 -- A line that was found keeps what the loop keeps, by its kind and whether it was refused.
-use Rattle.std.proofs.Common.{◌<◌, sym, ap, ◌∙◌, arith, rules}
-use Rattle.tables.specs.Machine.{most}
-use Rattle.machine.specs.declared.row.Look.{Look}
-use Rattle.text.proofs.Looping.{further, goes_other, goes_begin_refused, goes_begin_taken, site_in}
-use Rattle.text.proofs.Looping.{goes_step_refused, goes_step_pending, goes_step_answered, own_some, site_ready}
+use Rattle.std.proofs.Common.{rules}
+use Rattle.text.proofs.Looping.{goes_further, goes_other, goes_begin_refused, goes_begin_taken, site_in}
+use Rattle.text.proofs.Looping.{goes_step_refused, goes_step_pending, goes_step_answered, site_ready}
 use Rattle.text.proofs.lines.lines.Goals as goal
 
-pub loop-out-smaller-then-code-eq0 : goal.loop-out-smaller-then-code-eq0
-loop-out-smaller-then-code-eq0 c =
-    let v = c.loop-out in let n = c.next_line-found in
-    omega (arith, further _ _ v.invariant.within n.result n.ensures c.if-found-from.false)
+pub loop-starts-smaller-in-Ok : goal.loop-starts-smaller-in-Ok
+loop-starts-smaller-in-Ok c =
+    goes_further c.loop-starts.invariant c.has_room.ensures c.loop-starts-test.true c.in-Some.ensures
 
-pub loop-out-smaller-else-code-eq0 : goal.loop-out-smaller-else-code-eq0
-loop-out-smaller-else-code-eq0 c =
-    let v = c.loop-out in let n = c.next_line-found in
-    omega (arith, further _ _ v.invariant.within n.result n.ensures c.if-found-from.false)
+pub loop-starts-smaller-in-Err : goal.loop-starts-smaller-in-Err
+loop-starts-smaller-in-Err c =
+    goes_further c.loop-starts.invariant c.has_room.ensures c.loop-starts-test.true c.in-Some.ensures
 
-pub loop-out-smaller-then-r-ne0 : goal.loop-out-smaller-then-r-ne0
-loop-out-smaller-then-r-ne0 c =
-    let v = c.loop-out in let n = c.next_line-found in
-    omega (arith, further _ _ v.invariant.within n.result n.ensures c.if-found-from.false)
+pub loop-starts-smaller-in-Some-answer : goal.loop-starts-smaller-in-Some-answer
+loop-starts-smaller-in-Some-answer c =
+    goes_further c.loop-starts.invariant c.has_room.ensures c.loop-starts-test.true c.in-Some.ensures
 
-pub loop-out-smaller-then-is_pending : goal.loop-out-smaller-then-is_pending
-loop-out-smaller-then-is_pending c =
-    let v = c.loop-out in let n = c.next_line-found in
-    omega (arith, further _ _ v.invariant.within n.result n.ensures c.if-found-from.false)
+pub loop-starts-smaller-in_default-answer : goal.loop-starts-smaller-in_default-answer
+loop-starts-smaller-in_default-answer c =
+    goes_further c.loop-starts.invariant c.has_room.ensures c.loop-starts-test.true c.in-Some.ensures
 
-pub loop-out-smaller-in-Step : goal.loop-out-smaller-in-Step
-loop-out-smaller-in-Step c =
-    let v = c.loop-out in let n = c.next_line-found in
-    omega (arith, further _ _ v.invariant.within n.result n.ensures c.if-found-from.false)
+pub loop-starts-smaller-in-Err-look_up : goal.loop-starts-smaller-in-Err-look_up
+loop-starts-smaller-in-Err-look_up c =
+    goes_further c.loop-starts.invariant c.has_room.ensures c.loop-starts-test.true c.in-Some.ensures
 
-pub loop-out-smaller : goal.loop-out-smaller
-loop-out-smaller c =
-    let v = c.loop-out in let n = c.next_line-found in
-    omega (arith, further _ _ v.invariant.within n.result n.ensures c.if-found-from.false)
+pub loop-starts-smaller : goal.loop-starts-smaller
+loop-starts-smaller c =
+    goes_further c.loop-starts.invariant c.has_room.ensures c.loop-starts-test.true c.in-Some.ensures
 
-pub loop-out-preserved-then-code-eq0 : goal.loop-out-preserved-then-code-eq0
-loop-out-preserved-then-code-eq0 c =
-    let v = c.loop-out in let n = c.next_line-found in let w = c.wrapping_add_u64-line in
-    goes_begin_taken v.invariant c.loop-out-test.true n.result n.ensures c.if-found-from.false w.result w.ensures.value
-    _ _ c.in-Begin.is c.index-x.result c.index-x.ensures c.begin_code-code.result c.begin_code-code.ensures c.if-code-eq0.true c.begun.result c.begun.ensures
+pub loop-starts-preserved-in-Ok : goal.loop-starts-preserved-in-Ok
+loop-starts-preserved-in-Ok c =
+    goes_begin_taken c.loop-starts.invariant c.has_room.ensures c.loop-starts-test.true c.in-Some.ensures
+    c.in-Begin.is c.index-x.ensures c.in-Ok.ensures c.begun.ensures
 
-pub loop-out-preserved-else-code-eq0 : goal.loop-out-preserved-else-code-eq0
-loop-out-preserved-else-code-eq0 c =
-    let v = c.loop-out in let n = c.next_line-found in let w = c.wrapping_add_u64-line in let p = c.put_refused-put.ensures in
-    goes_begin_refused v.invariant c.loop-out-test.true n.result n.ensures c.if-found-from.false w.result w.ensures.value
-    _ _ c.in-Begin.is c.index-x.result c.index-x.ensures c.begin_code-code.result c.begin_code-code.ensures c.if-code-eq0.false _ _ p.wrote p.near
+pub loop-starts-preserved-in-Err : goal.loop-starts-preserved-in-Err
+loop-starts-preserved-in-Err c =
+    goes_begin_refused c.loop-starts.invariant c.has_room.ensures c.loop-starts-test.true c.in-Some.ensures
+    c.in-Begin.is c.index-x.ensures c.in-Err.ensures c.refused.ensures.puts
 
-pub loop-out-preserved-then-r-ne0 : goal.loop-out-preserved-then-r-ne0
-loop-out-preserved-then-r-ne0 c =
-    let v = c.loop-out in let n = c.next_line-found in let w = c.wrapping_add_u64-line in let x = c.index-x-in-Step in let y = c.index-y in let s = c.context_of-s in let o = c.look_up-r in
-    let p = c.put_refused-put-then-r-ne0.ensures in
-    goes_step_refused v.invariant c.loop-out-test.true n.result n.ensures c.if-found-from.false w.result w.ensures.value
-    _ _ c.in-Step.is x.result x.ensures c.source_of.result c.source_of.ensures y.result y.ensures s.result s.ensures o.result o.ensures
-    c.if-r-ne0.true _ _ p.wrote p.near
+pub loop-starts-preserved-in-Err-look_up : goal.loop-starts-preserved-in-Err-look_up
+loop-starts-preserved-in-Err-look_up c =
+    goes_step_refused c.loop-starts.invariant c.has_room.ensures c.loop-starts-test.true c.in-Some.ensures
+    c.in-Step.is c.index-x-in-Step.ensures c.source_of.ensures c.index-y.ensures c.context-context.ensures
+    c.in-Err-look_up.ensures c.refused-in-Err-look_up.ensures.puts
 
 pub reach-done-requires-clause-pow : goal.reach-done-requires-clause-pow
 reach-done-requires-clause-pow c =
-    let v = c.loop-out in let n = c.next_line-found in let w = c.wrapping_add_u64-line in let x = c.index-x-in-Step in let y = c.index-y in let s = c.context_of-s in let o = c.look_up-r in
-    (site_ready v.invariant c.loop-out-test.true n.result n.ensures c.if-found-from.false w.result w.ensures.value
-    _ _ c.in-Step.is x.result x.ensures c.source_of.result c.source_of.ensures y.result y.ensures s.result s.ensures o.result o.ensures
-    c.if-r-ne0.false).0
+    (site_ready c.loop-starts.invariant c.has_room.ensures c.loop-starts-test.true c.in-Some.ensures
+    c.in-Step.is c.index-x-in-Step.ensures c.source_of.ensures c.index-y.ensures c.context-context.ensures c.in-Ok-look_up.ensures).0
 
 pub reach-done-requires-clause-within : goal.reach-done-requires-clause-within
 reach-done-requires-clause-within c =
-    let v = c.loop-out in let n = c.next_line-found in let w = c.wrapping_add_u64-line in let x = c.index-x-in-Step in let y = c.index-y in let s = c.context_of-s in let o = c.look_up-r in
-    (site_ready v.invariant c.loop-out-test.true n.result n.ensures c.if-found-from.false w.result w.ensures.value
-    _ _ c.in-Step.is x.result x.ensures c.source_of.result c.source_of.ensures y.result y.ensures s.result s.ensures o.result o.ensures
-    c.if-r-ne0.false).1
+    (site_ready c.loop-starts.invariant c.has_room.ensures c.loop-starts-test.true c.in-Some.ensures
+    c.in-Step.is c.index-x-in-Step.ensures c.source_of.ensures c.index-y.ensures c.context-context.ensures c.in-Ok-look_up.ensures).1
 
-pub advance-next-requires : goal.advance-next-requires
-advance-next-requires c =
-    let v = c.loop-out in let n = c.next_line-found in let w = c.wrapping_add_u64-line in let x = c.index-x-in-Step in let y = c.index-y in let s = c.context_of-s in let o = c.look_up-r in
-    own_some v.invariant c.loop-out-test.true n.result n.ensures c.if-found-from.false w.result w.ensures.value
-    _ _ c.in-Step.is x.result x.ensures c.source_of.result c.source_of.ensures y.result y.ensures s.result s.ensures o.result o.ensures
-    c.if-r-ne0.false
+pub loop-starts-preserved-in_default-answer : goal.loop-starts-preserved-in_default-answer
+loop-starts-preserved-in_default-answer c =
+    goes_step_pending c.loop-starts.invariant c.has_room.ensures c.loop-starts-test.true c.in-Some.ensures
+    c.in-Step.is c.index-x-in-Step.ensures c.source_of.ensures c.index-y.ensures c.context-context.ensures c.in-Ok-look_up.ensures
+    c.reach-done.ensures c.advance-next.ensures c.moved.ensures c.in_default-answer.is
 
-pub loop-out-preserved-then-is_pending : goal.loop-out-preserved-then-is_pending
-loop-out-preserved-then-is_pending c =
-    let v = c.loop-out in let n = c.next_line-found in let w = c.wrapping_add_u64-line in let x = c.index-x-in-Step in let y = c.index-y in let s = c.context_of-s in let o = c.look_up-r in
-    let d = c.reach-done in let a = c.advance-next in let q = c.moved in
-    goes_step_pending v.invariant c.loop-out-test.true n.result n.ensures c.if-found-from.false w.result w.ensures.value
-    _ _ c.in-Step.is x.result x.ensures c.source_of.result c.source_of.ensures y.result y.ensures s.result s.ensures o.result o.ensures
-    c.if-r-ne0.false d.result _ d.ensures a.result a.ensures q.result q.ensures (sym c.is_pending.ensures ∙ c.if-is_pending.true)
+pub loop-starts-preserved-in-Some-answer : goal.loop-starts-preserved-in-Some-answer
+loop-starts-preserved-in-Some-answer c =
+    goes_step_answered c.loop-starts.invariant c.has_room.ensures c.loop-starts-test.true c.in-Some.ensures
+    c.in-Step.is c.index-x-in-Step.ensures c.source_of.ensures c.index-y.ensures c.context-context.ensures c.in-Ok-look_up.ensures
+    c.reach-done.ensures c.advance-next.ensures c.moved.ensures c.in-Some-answer.is
+    c.answer.ensures.puts
 
-pub loop-out-preserved-in-Step : goal.loop-out-preserved-in-Step
-loop-out-preserved-in-Step c =
-    let v = c.loop-out in let n = c.next_line-found in let w = c.wrapping_add_u64-line in let x = c.index-x-in-Step in let y = c.index-y in let s = c.context_of-s in let o = c.look_up-r in
-    let d = c.reach-done in let a = c.advance-next in let q = c.moved in let p = c.put_answer-put.ensures in
-    goes_step_answered v.invariant c.loop-out-test.true n.result n.ensures c.if-found-from.false w.result w.ensures.value
-    _ _ c.in-Step.is x.result x.ensures c.source_of.result c.source_of.ensures y.result y.ensures s.result s.ensures o.result o.ensures
-    c.if-r-ne0.false d.result _ d.ensures a.result a.ensures q.result q.ensures (sym c.is_pending.ensures ∙ c.if-is_pending.false)
-    _ _ p.wrote p.near
+pub loop-starts-preserved : goal.loop-starts-preserved
+loop-starts-preserved c =
+    goes_other c.loop-starts.invariant c.has_room.ensures c.loop-starts-test.true c.in-Some.ensures c.in-Machine.is c.refused-in-Machine.ensures.puts
 
-pub loop-out-preserved : goal.loop-out-preserved
-loop-out-preserved c =
-    let v = c.loop-out in let n = c.next_line-found in let w = c.wrapping_add_u64-line in let p = c.put_refused-put-in-Machine.ensures in
-    goes_other v.invariant c.loop-out-test.true n.result n.ensures c.if-found-from.false w.result w.ensures.value
-    c.in-Machine.is _ _ p.wrote p.near
+pub bounds-m-site : goal.bounds-m-site
+bounds-m-site c =
+    search (
+      rules,
+      site_in c.loop-starts.invariant c.has_room.ensures c.loop-starts-test.true c.in-Some.ensures
+          c.in-Step.is c.index-x-in-Step.ensures c.source_of.ensures c.index-y.ensures c.context-context.ensures c.in-Ok-look_up.ensures,
+    )
 
-pub bounds-m-z : goal.bounds-m-z
-bounds-m-z c =
-    let x = c.index-x-in-Step in let y = c.index-y in let o = c.look_up-r in
-    let a : x.result < most = omega (arith, x.ensures) in let b : y.result < most = omega (arith, y.ensures) in
-    let h : o.result.site < most = site_in c.loop-out.m x.result y.result c.context_of-s.result _ (ap (λ (l : Look). l.site) o.ensures) a b in
-    search rules
+pub bounds-starts-site : goal.bounds-starts-site
+bounds-starts-site c =
+    search (
+      rules,
+      site_in c.loop-starts.invariant c.has_room.ensures c.loop-starts-test.true c.in-Some.ensures
+          c.in-Step.is c.index-x-in-Step.ensures c.source_of.ensures c.index-y.ensures c.context-context.ensures c.in-Ok-look_up.ensures,
+    )
 
-pub bounds-starts-z : goal.bounds-starts-z
-bounds-starts-z c =
-    let x = c.index-x-in-Step in let y = c.index-y in let o = c.look_up-r in
-    let a : x.result < most = omega (arith, x.ensures) in let b : y.result < most = omega (arith, y.ensures) in
-    let h : o.result.site < most = site_in c.loop-out.m x.result y.result c.context_of-s.result _ (ap (λ (l : Look). l.site) o.ensures) a b in
-    search rules
+pub bounds-m-site-in-Ok-look_up : goal.bounds-m-site-in-Ok-look_up
+bounds-m-site-in-Ok-look_up c =
+    search (
+      rules,
+      site_in c.loop-starts.invariant c.has_room.ensures c.loop-starts-test.true c.in-Some.ensures
+          c.in-Step.is c.index-x-in-Step.ensures c.source_of.ensures c.index-y.ensures c.context-context.ensures c.in-Ok-look_up.ensures,
+    )
 
-pub bounds-m-z-in-Step : goal.bounds-m-z-in-Step
-bounds-m-z-in-Step c =
-    let x = c.index-x-in-Step in let y = c.index-y in let o = c.look_up-r in
-    let a : x.result < most = omega (arith, x.ensures) in let b : y.result < most = omega (arith, y.ensures) in
-    let h : o.result.site < most = site_in c.loop-out.m x.result y.result c.context_of-s.result _ (ap (λ (l : Look). l.site) o.ensures) a b in
-    search rules
+pub offset_bounds-m-site : goal.offset_bounds-m-site
+offset_bounds-m-site c =
+    search (
+      rules,
+      site_in c.loop-starts.invariant c.has_room.ensures c.loop-starts-test.true c.in-Some.ensures
+          c.in-Step.is c.index-x-in-Step.ensures c.source_of.ensures c.index-y.ensures c.context-context.ensures c.in-Ok-look_up.ensures,
+    )
 
-pub offset_bounds-m-z : goal.offset_bounds-m-z
-offset_bounds-m-z c =
-    let x = c.index-x-in-Step in let y = c.index-y in let o = c.look_up-r in
-    let a : x.result < most = omega (arith, x.ensures) in let b : y.result < most = omega (arith, y.ensures) in
-    let h : o.result.site < most = site_in c.loop-out.m x.result y.result c.context_of-s.result _ (ap (λ (l : Look). l.site) o.ensures) a b in
-    search rules
+pub offset_bounds-starts-site : goal.offset_bounds-starts-site
+offset_bounds-starts-site c =
+    search (
+      rules,
+      site_in c.loop-starts.invariant c.has_room.ensures c.loop-starts-test.true c.in-Some.ensures
+          c.in-Step.is c.index-x-in-Step.ensures c.source_of.ensures c.index-y.ensures c.context-context.ensures c.in-Ok-look_up.ensures,
+    )
 
-pub offset_bounds-starts-z : goal.offset_bounds-starts-z
-offset_bounds-starts-z c =
-    let x = c.index-x-in-Step in let y = c.index-y in let o = c.look_up-r in
-    let a : x.result < most = omega (arith, x.ensures) in let b : y.result < most = omega (arith, y.ensures) in
-    let h : o.result.site < most = site_in c.loop-out.m x.result y.result c.context_of-s.result _ (ap (λ (l : Look). l.site) o.ensures) a b in
-    search rules
-
-pub offset_bounds-m-z-in-Step : goal.offset_bounds-m-z-in-Step
-offset_bounds-m-z-in-Step c =
-    let x = c.index-x-in-Step in let y = c.index-y in let o = c.look_up-r in
-    let a : x.result < most = omega (arith, x.ensures) in let b : y.result < most = omega (arith, y.ensures) in
-    let h : o.result.site < most = site_in c.loop-out.m x.result y.result c.context_of-s.result _ (ap (λ (l : Look). l.site) o.ensures) a b in
-    search rules
+pub offset_bounds-m-site-in-Ok-look_up : goal.offset_bounds-m-site-in-Ok-look_up
+offset_bounds-m-site-in-Ok-look_up c =
+    search (
+      rules,
+      site_in c.loop-starts.invariant c.has_room.ensures c.loop-starts-test.true c.in-Some.ensures
+          c.in-Step.is c.index-x-in-Step.ensures c.source_of.ensures c.index-y.ensures c.context-context.ensures c.in-Ok-look_up.ensures,
+    )

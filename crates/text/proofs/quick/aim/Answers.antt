@@ -4,6 +4,6 @@ use Rattle.text.proofs.Standing.{aim_said}
 use Rattle.text.proofs.quick.aim.Goals as goal
 
 pub returns : goal.returns
-returns c moved =
-    let count = c.few-n.ensures c.if-end-at.false in
-    aim_said _ _ _ _ count (omega (arith, count.near)) _ _ c.if-s-end-ne9.false (c.rule-r.ensures c.if-r-end.false)
+returns c =
+    let count = c.in_ok-source.ensures in
+    aim_said _ _ _ _ count (omega (arith, count.near)) _ _ c.if-s-end-ne9.false c.in_ok-rule.ensures

@@ -5,8 +5,8 @@ use Rattle.text.proofs.Standing.{then_two, call_said, begin_line_lem}
 use Rattle.text.proofs.quick.begin.Goals as goal
 
 pub returns : goal.returns
-returns c moved =
-    let count = c.few-n.ensures c.if-end-from.false in
+returns c =
+    let count = c.in_ok-party.ensures in
     begin_line_lem _ _ _ 59 _ _
     (then_two _ _ _ (ascii "begi") (110 ∷ 9 ∷ []) (omega arith) c.requires.stands c.two.ensures refl refl c.if-two-ne-N_TAB.false) (omega arith)
-    (call_said _ _ _ _ count (omega (arith, count.near)) _ _ c.if-s-end-ne9.false (c.call-c.ensures c.if-c-end.false))
+    (call_said _ _ _ _ count (omega (arith, count.near)) _ _ c.if-s-end-ne9.false c.in_ok-call.ensures)

@@ -5,7 +5,7 @@ use Rattle.text.proofs.Standing.{loaded}
 use Rattle.text.proofs.quick.quick.Goals as goal
 
 pub step-requires-clause-stands : goal.step-requires-clause-stands
-step-requires-clause-stands c = loaded _ _ 4 _ (ascii "step") (omega arith) c.four-w.ensures refl refl c.if-w-eq-STEP.true
+step-requires-clause-stands c = loaded _ _ 4 _ (ascii "step") (omega arith) c.four.ensures refl refl c.in-1885697139.is
 
 pub begin-requires-clause-stands : goal.begin-requires-clause-stands
-begin-requires-clause-stands c = loaded _ _ 4 _ (ascii "begi") (omega arith) c.four-w.ensures refl refl c.if-w-eq-BEGI.true
+begin-requires-clause-stands c = loaded _ _ 4 _ (ascii "begi") (omega arith) c.four.ensures refl refl c.in-1768383842.is

@@ -1,13 +1,12 @@
 use Rattle.std.proofs.Common.{le-leb}
 use borrow.Author.Tests.{lt-leb}
 use Rattle.text.specs.Line.{read_of}
-use Rattle.text.proofs.Parts.{from_start}
 use Rattle.text.proofs.read.read_line.Goals as goal
 
-pub returns-then-s-le-LONGEST : goal.returns-then-s-le-LONGEST
+pub returns-then-s-gt-LONGEST : goal.returns-then-s-gt-LONGEST
 unfolding read_of
-returns-then-s-le-LONGEST c = simp (le-leb _ _ c.if-s-le-LONGEST.true, ← from_start, c.line_at.ensures)
+returns-then-s-gt-LONGEST c = simp (lt-leb _ _ c.if-s-gt-LONGEST.true)
 
-pub returns-else-s-le-LONGEST : goal.returns-else-s-le-LONGEST
+pub returns : goal.returns
 unfolding read_of
-returns-else-s-le-LONGEST c = simp (lt-leb _ _ c.if-s-le-LONGEST.false)
+returns c = simp (le-leb _ _ c.if-s-gt-LONGEST.false, c.unwrap_or.ensures, c.line.ensures)

@@ -5,4 +5,4 @@ use Rattle.text.proofs.run.start.Goals as goal
 
 pub returns-clause-flow_is : goal.returns-clause-flow_is
 unfolding opening open_refusal
-returns-clause-flow_is c = rw (c.open-opened.ensures, c.start.ensures) refl
+returns-clause-flow_is c = rw (c.open-opened.ensures, c.start.ensures, c.none.ensures) refl

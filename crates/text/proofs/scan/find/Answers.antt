@@ -1,21 +1,10 @@
-use Rattle.std.proofs.Common.{sym, ◌∙◌, arith}
-use Rattle.text.proofs.Finding.{found_here, found_further, found_end}
+use Rattle.std.proofs.Common.{rules}
+use Rattle.text.proofs.Finding.{first_at, first_nowhere}
 use Rattle.text.proofs.scan.find.Goals as goal
 
-pub returns-then-s-at-clause-index : goal.returns-then-s-at-clause-index
-returns-then-s-at-clause-index c =
-    let l = c.loop-at in sym (l.invariant.others ∙ found_here c.args.byte _ l.at c.args.end c.loop-at-test.true c.requires.within c.if-s-at.true)
+pub returns-in-Some-clause-index : goal.returns-in-Some-clause-index
+returns-in-Some-clause-index c =
+    first_at _ _ _ _ c.requires.ordered c.requires.within c.in-Some.before (search rules) (search rules) (search rules)
 
-pub loop-at-preserved : goal.loop-at-preserved
-loop-at-preserved c =
-    let l = c.loop-at in
-    record {
-      begun = omega arith;
-      within = omega arith;
-      others = l.invariant.others ∙ found_further c.args.byte _ l.at c.args.end c.loop-at-test.true c.requires.within c.if-s-at.false;
-    }
-
-pub returns-clause-index : goal.returns-clause-index
-returns-clause-index c =
-    let l = c.loop-at in
-    sym (l.invariant.others ∙ found_end c.args.byte _ l.at c.args.end (omega arith) c.requires.within)
+pub returns-in-None-clause-index : goal.returns-in-None-clause-index
+returns-in-None-clause-index c = first_nowhere _ _ _ _ c.requires.ordered c.requires.within (search rules)
