@@ -66,6 +66,7 @@ pub fn reply(block: &[u64], which: u64) -> u64
     }
 }
 
+// As `queue_of`, of what rests there: one function over what is read would need a clause longer than both.
 #[tactic(auto, using(crate::proofs::Looks::known))]
 fn resting_in(block: &[u64], queue: u64) -> Option<Resting>
     ensures { result ≡ where_known (ltb queue (B.machine_of width most block.now).parties)

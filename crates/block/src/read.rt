@@ -14,16 +14,25 @@ use words::Position;
 
 // ---- what a call is about; each is read where its role is known, and there is no error to tell, so it is an Option
 
-// Between types of other crates, for which no `TryFrom` can stand here.
-pub fn known_rule(rule: u64, number: u64) -> Option<Rule>
-    ensures { result ≡ C.where_known (ltb rule 4) (C.rule_of rule number) }
+// Between types of other crates, for which no `TryFrom` can stand here. A number that is no rule's reads as the last.
+pub fn rule_of(rule: u64, number: u64) -> Rule
+    ensures { result ≡ C.rule_of rule number }
 {
     match rule {
-        0 => Some(Rule::All),
-        1 => Some(Rule::Half),
-        2 => Some(Rule::Fixed(number)),
-        3 => Some(Rule::Given),
-        _ => None,
+        0 => Rule::All,
+        1 => Rule::Half,
+        2 => Rule::Fixed(number),
+        _ => Rule::Given,
+    }
+}
+
+fn known_rule(rule: u64, number: u64) -> Option<Rule>
+    ensures { result ≡ C.where_known (ltb rule 4) (C.rule_of rule number) }
+{
+    if rule < 4 {
+        Some(rule_of(rule, number))
+    } else {
+        None
     }
 }
 

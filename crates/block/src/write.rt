@@ -1,4 +1,4 @@
-// A place as numbers: one line a place, in the order of the tables. What a place does not remember is 0.
+// A place as numbers, in the order of the tables. What a place does not remember is 0.
 ghost use Rattle.std.specs.Prelude.{◌≡◌};
 ghost use Rattle.block.specs.PlaceWords as C;
 

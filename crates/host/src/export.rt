@@ -54,7 +54,7 @@ pub fn ragnulois_begin(
         ≡ N.begun width most (contents_in width most block.old) items.old party call source rule number }
     ensures kept { IsErr result → block.new ≡ block.old }
 {
-    let call = numbers::call_of(call, source, rule, number).ok_or(Fault::Malformed)?;
+    let call = numbers::known_call(call, source, rule, number).ok_or(Fault::Malformed)?;
     Ok(block::entry::act(block, items, party, Act::Begin(call))?)
 }
 
@@ -71,7 +71,7 @@ pub fn ragnulois_step(
         ≡ N.stepped width most (contents_in width most block.old) items.old party mark number }
     ensures kept { IsErr result → block.new ≡ block.old }
 {
-    let mark = numbers::mark_of(mark, number).ok_or(Fault::Malformed)?;
+    let mark = numbers::known_mark(mark, number).ok_or(Fault::Malformed)?;
     Ok(block::entry::act(block, items, party, Act::Step(mark))?)
 }
 

@@ -1,44 +1,86 @@
-// Calls and marks as a host in another language names them; numbers that name none are None. Between types of other crates, for
-// which no `TryFrom` can stand here.
+// Calls and marks as a host in another language names them. Between types of other crates, for which no `TryFrom` can stand here. What
+// names a call or a mark is said apart from which it names: each is a public function whose answer on every number is promised.
 ghost use Rattle.std.specs.Prelude.{◌≡◌};
 ghost use Rattle.block.specs.PlaceWords.{where_known};
 ghost use Rattle.host.specs.Numbers as N;
 
-use block::read::known_rule;
-use tables::call::{Call, Mark};
+use tables::call::{Call, Mark, Rule};
 
-pub fn call_of(call: u64, source: u64, rule: u64, number: u64) -> Option<Call>
-    ensures { result ≡ where_known (N.call_known call rule) (N.call_of call source rule number) }
+fn with_rule(call: u64, source: u64, rule: Rule) -> Call
+    ensures { result ≡ N.ruled_call call source rule }
 {
-    Some(match call {
+    match call {
+        3 => Call::Steal { source, rule },
+        4 => Call::Take { source, rule },
+        _ => Call::Drain(rule),
+    }
+}
+
+fn without_rule(call: u64, number: u64) -> Call
+    ensures { result ≡ N.plain_call call number }
+{
+    match call {
         0 => Call::Push(number),
         1 => Call::Extend,
         2 => Call::Spare,
-        3 => Call::Steal {
-            source,
-            rule: known_rule(rule, number)?,
-        },
-        4 => Call::Take {
-            source,
-            rule: known_rule(rule, number)?,
-        },
-        5 => Call::Drain(known_rule(rule, number)?),
         6 => Call::Next,
         7 => Call::Drop,
         8 => Call::Pop,
-        9 => Call::Empty,
-        _ => return None,
-    })
+        _ => Call::Empty,
+    }
 }
 
-pub fn mark_of(mark: u64, number: u64) -> Option<Mark>
-    ensures { result ≡ where_known (N.mark_known mark) (N.mark_of mark number) }
+fn has_rule(call: u64) -> bool
+    ensures { result ≡ N.has_rule call }
+{
+    (3..6).contains(&call)
+}
+
+pub fn call_of(call: u64, source: u64, rule: u64, number: u64) -> Call
+    ensures { result ≡ N.call_of call source rule number }
+{
+    if has_rule(call) {
+        with_rule(call, source, block::read::rule_of(rule, number))
+    } else {
+        without_rule(call, number)
+    }
+}
+
+pub fn call_known(call: u64, rule: u64) -> bool
+    ensures { result ≡ N.call_known call rule }
+{
+    if has_rule(call) { rule < 4 } else { call < 10 }
+}
+
+// The call that the numbers name, if they name one.
+pub fn known_call(call: u64, source: u64, rule: u64, number: u64) -> Option<Call>
+    ensures { result ≡ where_known (N.call_known call rule) (N.call_of call source rule number) }
+{
+    if call_known(call, rule) {
+        Some(call_of(call, source, rule, number))
+    } else {
+        None
+    }
+}
+
+pub fn mark_of(mark: u64, number: u64) -> Mark
+    ensures { result ≡ N.mark_of mark number }
 {
     match mark {
-        0 => Some(Mark::Plain),
-        1 => Some(Mark::Weak),
-        2 => Some(Mark::Carry(number)),
-        3 => Some(Mark::End),
-        _ => None,
+        0 => Mark::Plain,
+        1 => Mark::Weak,
+        2 => Mark::Carry(number),
+        _ => Mark::End,
+    }
+}
+
+// The mark that the number names, if it names one.
+pub fn known_mark(mark: u64, number: u64) -> Option<Mark>
+    ensures { result ≡ where_known (N.mark_known mark) (N.mark_of mark number) }
+{
+    if mark < 4 {
+        Some(mark_of(mark, number))
+    } else {
+        None
     }
 }

@@ -28,7 +28,8 @@ use Rattle.machine.specs.declared.desk.Desk.{Desk}
 use Rattle.machine.specs.declared.desk.Stretches.{Stretches}
 use Rattle.machine.specs.declared.desk.Turn.{Turn}
 use Rattle.machine.specs.Desk.{With, with, desk_step, ran_none, desk_runs, as_came, begun_desk, of_stepped, of_ran, taking, turned}
-use Rattle.machine.specs.Desk.{start_refusal, left_at, Ready}
+use Rattle.machine.specs.Desk.{left_at, Ready}
+use Rattle.tables.specs.Step.{start_refusal}
 use Rattle.machine.specs.Look.{Fit}
 use Rattle.machine.proofs.Told.{Test}
 use Rattle.machine.proofs.Desks.{desk_of, stretches_of, put_same, Seated, turn_is, runs_are}

@@ -1,5 +1,5 @@
 -- A step as the code takes it: one party, its own queue, its source's queue and the items. proofs/ shows that it is the machine's.
-use Rattle.std.specs.Prelude.{ℕ, zero, suc, ◌+◌, ◌≤◌, ◌<◌, ◌^◌, Bool, false, not, List, [], ltb, eqb, set, Option, None, Result, Ok, Err}
+use Rattle.std.specs.Prelude.{ℕ, zero, suc, ◌+◌, ◌≤◌, ◌<◌, ◌^◌, Bool, false, not, List, [], eqb, set, Option, None, Result, Ok, Err}
 use Rattle.words.specs.Word.{pick, Pow}
 use Rattle.tables.specs.declared.access.Context.{Context}
 use Rattle.tables.specs.declared.access.Next.{Next}
@@ -14,14 +14,13 @@ use Rattle.tables.specs.declared.call.Mark.{Mark}
 use Rattle.tables.specs.declared.state.Machine.{Machine}
 use Rattle.tables.specs.declared.state.Party.{Party}
 use Rattle.tables.specs.declared.state.Queue.{Queue}
-use Rattle.tables.specs.declared.place.Place.{Place}
 use Rattle.tables.specs.Access.{Accessed, perform}
 use Rattle.tables.specs.Effect.{effect_of}
 use Rattle.tables.specs.Machine.{stretch, restretched}
 use Rattle.tables.specs.Row.{Row}
 use Rattle.tables.specs.Refusal.{refusal_of}
-use Rattle.tables.specs.Tables.{row_of, is_idle, call_source, start}
-use Rattle.tables.specs.Step.{is_weak, noted, stops_at, until, mark_refusal, AfterAct, three_effects}
+use Rattle.tables.specs.Tables.{row_of, start}
+use Rattle.tables.specs.Step.{is_weak, noted, stops_at, until, start_refusal, run_refusal, mark_refusal, AfterAct, three_effects}
 use Rattle.machine.specs.declared.desk.Desk.{Desk}
 use Rattle.machine.specs.declared.desk.Stretches.{Stretches}
 use Rattle.machine.specs.declared.desk.Reached.{Reached}
@@ -166,13 +165,6 @@ begun_desk d c = record {
   own = d.own;
   source = d.source;
 }
-
--- of a party that is there: refusals 3 and 5, and 4
-abbrev pub start_refusal : (parties who : ℕ) → Place → Call → ℕ
-start_refusal n who p c = pick (is_idle p) (pick (ltb (call_source who c) n) 0 5) 3
-
-abbrev pub run_refusal : Place → ℕ
-run_refusal p = pick (is_idle p) 4 0
 
 -- taken where the refusal is 0, else refused, and the items as they came
 abbrev pub taking : (code : ℕ) → With Turn → List ℕ → With (Result Turn Refusal)

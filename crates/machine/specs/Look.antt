@@ -13,10 +13,12 @@ use Rattle.tables.specs.Step.{sound, site, step_order}
 use Rattle.machine.specs.declared.row.Look.{Look}
 
 -- x and y are the own queue's place of the table and the source's
+abbrev pub look_at : ℕ → (x y : ℕ) → Place → Context → Look
+look_at w x y p s = record { site = site (row_of w s p).whose x y; access = (row_of w s p).access }
+
 abbrev pub look : ℕ → (parties who x y : ℕ) → Place → Context → Result Look Refusal
 look w n who x y p s =
-    told (step_order true n who (row_of w s p).access s.mark p)
-    (record { site = site (row_of w s p).whose x y; access = (row_of w s p).access })
+    told (step_order true n who (row_of w s p).access s.mark p) (look_at w x y p s)
 
 -- what a row knows of a record, its party and own queue at x and its source at y
 abbrev pub context_for : Machine → (x y : ℕ) → Mark → Context

@@ -26,8 +26,8 @@ pub struct Stretches {
     pub source: usize,
 }
 
-// A row looked up: what it knows, the access it makes, to which queue (away: the source, where that is another one), and where
-// that queue's stretch starts.
+// A row looked up: what it knows, the access it makes, to which queue, and where that queue's stretch starts. `away` is no `Whose`: it says
+// that the source is meant and is another queue than the own, which a row's `Whose` does not know.
 #[derive(Clone, Copy)]
 pub struct Reached {
     pub context: Context,
@@ -82,20 +82,20 @@ pub fn begun(party: Party, own: Queue, call: Call) -> Party
 
 impl Stretches {
     // The source's queue is another one than the own.
-    pub fn is_away(self, whose: Whose) -> bool
+    pub(super) fn is_away(self, whose: Whose) -> bool
         ensures { result ≡ D.away whose (D.same self) }
     {
         whose == Whose::Source && self.from != self.who
     }
 
-    pub fn base(self, away: bool) -> usize
+    pub(super) fn base(self, away: bool) -> usize
         ensures { result ≡ D.base_for away self }
     {
         if away { self.source } else { self.own }
     }
 
     // The number of the queue that a step reaches.
-    pub fn site(self, away: bool) -> u64
+    pub(super) fn site(self, away: bool) -> u64
         ensures { result ≡ D.site_for away self }
     {
         if away { self.from } else { self.who }
@@ -115,14 +115,14 @@ impl Desk {
         }
     }
 
-    pub fn queue(self, away: bool) -> Queue
+    pub(super) fn queue(self, away: bool) -> Queue
         ensures { result ≡ D.queue_for away self }
     {
         if away { self.source } else { self.own }
     }
 
     // With the queue that a step reached and the party's next place.
-    pub fn with(self, away: bool, queue: Queue, next: Next) -> Desk
+    pub(super) fn with(self, away: bool, queue: Queue, next: Next) -> Desk
         ensures { result ≡ D.desk_with away self queue next }
     {
         let party = moved(next);

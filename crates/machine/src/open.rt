@@ -96,7 +96,8 @@ fn fill(
     Filled { machine, total }
 }
 
-// Refusals 1, 7 and 8, in that order. Of the items only their number matters: opening writes none.
+// Refusals 1, 7 and 8, in that order. Of the items only their number matters: opening writes none. Requests and positions stand apart, as a
+// host in C lends them.
 pub fn open(
     kind: Kind,
     parties: u64,

@@ -25,8 +25,18 @@ fn site_of(whose: Whose, x: usize, y: usize) -> usize
     }
 }
 
-// x and y are the own queue's place of the table and the source's. The table is asked before the refusals, since one of them
-// depends on the access.
+// x and y are the own queue's place of the table and the source's.
+pub fn look_at(x: usize, y: usize, place: Place, context: Context) -> Look
+    ensures { result ≡ L.look_at width x y place context }
+{
+    let want = queue::wants(place, context);
+    Look {
+        site: site_of(want.whose, x, y),
+        access: want.access,
+    }
+}
+
+// The table is asked before the refusals, since one of them depends on the access.
 pub fn look_up(
     parties: u32,
     who: u64,
@@ -37,10 +47,7 @@ pub fn look_up(
 ) -> Result<Look, Refusal>
     ensures { result ≡ L.look width parties who x y place context }
 {
-    let want = queue::wants(place, context);
-    turn::may_step(parties, who, want.access, context.mark, place)?;
-    Ok(Look {
-        site: site_of(want.whose, x, y),
-        access: want.access,
-    })
+    let look = look_at(x, y, place, context);
+    turn::may_step(parties, who, look.access, context.mark, place)?;
+    Ok(look)
 }

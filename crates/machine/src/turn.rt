@@ -62,7 +62,7 @@ fn stops(answer: Option<Answer>, place: Place) -> bool
 // ---- refusals, in their orders, on a record that passed its test: whoever has another refuses it before
 
 // The party is there.
-pub fn there(parties: u32, who: u64) -> Result<(), Refusal>
+pub(super) fn there(parties: u32, who: u64) -> Result<(), Refusal>
     ensures { result ≡ told (pick (ltb who parties) 0 2) tt }
 {
     if who < parties as u64 {
@@ -74,7 +74,7 @@ pub fn there(parties: u32, who: u64) -> Result<(), Refusal>
 
 // It has no call, and the call's source is there.
 fn may_start(parties: u32, who: u64, place: Place, call: Call) -> Result<(), Refusal>
-    ensures { result ≡ told (D.start_refusal parties who place call) tt }
+    ensures { result ≡ told (St.start_refusal parties who place call) tt }
 {
     if !places::is_idle(place) {
         return Err(Refusal::Busy);
@@ -88,7 +88,7 @@ fn may_start(parties: u32, who: u64, place: Place, call: Call) -> Result<(), Ref
 
 // It has a call.
 fn may_run(place: Place) -> Result<(), Refusal>
-    ensures { result ≡ told (D.run_refusal place) tt }
+    ensures { result ≡ told (St.run_refusal place) tt }
 {
     if places::is_idle(place) {
         Err(Refusal::Idle)
@@ -199,8 +199,8 @@ fn onward(at: Stretches, t: Turn, items: &mut [u64]) -> Turn
 // ---- an act of a party that is there, on a record that passed its test; refused, it leaves the items as they were
 
 impl Seat {
-    // The party is stepped until it answers, needs a number or end, or has spent its budget. A loop whose break yields what it has
-    // come to, and no `for`: docs/READING.md names that form.
+    // The party is stepped until it answers, needs a number or end, or has spent its budget. By a rule of the
+    // project a loop whose break yields the answer and the steps, and no `for` (docs/READING.md).
     fn alone(self, items: &mut [u64], budget: u64) -> Turn
         requires { D.Ready self.at self.desk (length items.old) }
         ensures { D.with result items.new ≡ D.of_ran (D.desk_runs width self.at budget (D.ran_none self.desk items.old)) }
@@ -242,7 +242,7 @@ impl Seat {
         Ok(self.alone(items, budget))
     }
 
-    pub fn turned(self, parties: u32, items: &mut [u64], act: Act) -> Result<Turn, Refusal>
+    pub(super) fn turned(self, parties: u32, items: &mut [u64], act: Act) -> Result<Turn, Refusal>
         requires { D.Ready self.at self.desk (length items.old) }
         ensures { D.with result items.new ≡ D.turned width parties self.at self.desk items.old act }
     {

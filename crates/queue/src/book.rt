@@ -8,8 +8,8 @@ use super::{fifo, lifo, row};
 use tables::access::{Access, Context, Next, Seen, Wanted};
 use tables::place::{BookPlace, BookingCall, Place};
 
-pub fn wants(call: BookingCall, place: BookPlace, s: Context) -> Wanted
-    ensures { result ≡ Y.wanted (T.book_row width s call place) }
+pub fn wants(place: BookPlace) -> Wanted
+    ensures { (s : Context) (call : BookingCall) → result ≡ Y.wanted (T.book_row width s call place) }
 {
     match place {
         BookPlace::LifoPacked => row::source(Access::LoadPacked),

@@ -50,8 +50,8 @@ fn was_closed(s: Context, call: ClosingCall, seen: Seen) -> Next
     }
 }
 
-pub fn wants(call: ClosingCall, place: ClosePlace, s: Context) -> Wanted
-    ensures { result ≡ Y.wanted (Ts.close_row width s call place) }
+pub fn wants(place: ClosePlace) -> Wanted
+    ensures { (s : Context) (call : ClosingCall) → result ≡ Y.wanted (Ts.close_row width s call place) }
 {
     match place {
         ClosePlace::StoreCompleted { head } => row::source(Access::StoreCompleted(head)),

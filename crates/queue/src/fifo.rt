@@ -24,8 +24,8 @@ fn popped_heads(packed: u64) -> u64
     }
 }
 
-pub fn wants(place: FifoPlace, s: Context) -> Wanted
-    ensures { result ≡ Y.wanted (T.fifo_row width s place) }
+pub fn wants(place: FifoPlace) -> Wanted
+    ensures { (s : Context) → result ≡ Y.wanted (T.fifo_row width s place) }
 {
     match place {
         FifoPlace::LoadPacked(_) => row::own(Access::LoadPacked),
@@ -78,7 +78,7 @@ fn popped(s: Context, packed: u64, seen: Seen) -> Next
     }
 }
 
-fn is_empty(s: Context, packed: u64, tail: u32) -> Next
+fn empty_test(s: Context, packed: u64, tail: u32) -> Next
     ensures { result ≡ T.fifo_empty width s packed tail }
 {
     let old = words::unpack(packed);
@@ -133,7 +133,7 @@ pub fn advance(place: FifoPlace, s: Context, seen: Seen) -> Next
             }),
             None,
         ),
-        FifoPlace::EmptyTail { packed } => is_empty(s, packed, seen.word),
+        FifoPlace::EmptyTail { packed } => empty_test(s, packed, seen.word),
     }
 }
 

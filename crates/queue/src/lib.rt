@@ -1,5 +1,6 @@
 // One queue's accesses, and the access tables in code: what a step wants of which queue, and what follows from what it saw.
-// lifo.rt and fifo.rt stand beside st3's lifo.rs and fifo.rs; what both kinds share has modules of its own.
+// lifo.rt and fifo.rt stand beside st3's lifo.rs and fifo.rs; what both kinds share has modules of its own. Where they look alike they are
+// no twins: they differ in which half of the packed word is the head, in what follows a failed exchange, and in the places they name.
 #![tactic(auto)]
 
 ghost use Rattle.std.specs.Prelude.{◌≡◌};
@@ -26,12 +27,12 @@ pub fn wants(place: Place, s: Context) -> Wanted
 {
     match place {
         Place::Idle => row::own(Access::Touch),
-        Place::Lifo(p) => lifo::wants(p, s),
-        Place::Fifo(p) => fifo::wants(p, s),
+        Place::Lifo(p) => lifo::wants(p),
+        Place::Fifo(p) => fifo::wants(p),
         Place::Own(p) => own::wants(p, s),
-        Place::Book(g, p) => book::wants(g, p, s),
-        Place::Move(p) => moves::wants(p, s),
-        Place::Close(e, p) => closing::wants(e, p, s),
+        Place::Book(g, p) => book::wants(p),
+        Place::Move(p) => moves::wants(p),
+        Place::Close(e, p) => closing::wants(p),
     }
 }
 

@@ -11,8 +11,8 @@ use tables::answer::{Answer, Change};
 use tables::place::{BookPlace, BookingCall, LifoPlace, OwnPlace, Place, RoomCall};
 use words::Position;
 
-pub fn wants(place: LifoPlace, s: Context) -> Wanted
-    ensures { result ≡ Y.wanted (T.lifo_row width s place) }
+pub fn wants(place: LifoPlace) -> Wanted
+    ensures { (s : Context) → result ≡ Y.wanted (T.lifo_row width s place) }
 {
     match place {
         LifoPlace::LoadPushes(_) => row::own(Access::LoadPushes),
@@ -72,7 +72,7 @@ fn popped(s: Context, tail: u32, seen: Seen) -> Next
     }
 }
 
-fn is_empty(s: Context, pushes: u32, packed: u64) -> Next
+fn empty_test(s: Context, pushes: u32, packed: u64) -> Next
     ensures { result ≡ T.lifo_empty width s pushes packed }
 {
     let old = words::unpack(packed);
@@ -131,7 +131,7 @@ pub fn advance(place: LifoPlace, s: Context, seen: Seen) -> Next
             Place::Lifo(LifoPlace::EmptyPacked { pushes: seen.word }),
             None,
         ),
-        LifoPlace::EmptyPacked { pushes } => is_empty(s, pushes, seen.packed),
+        LifoPlace::EmptyPacked { pushes } => empty_test(s, pushes, seen.packed),
     }
 }
 

@@ -1,4 +1,4 @@
-// The only code that touches a queue's words and slots.
+// One access to a queue's words or slots: no step makes one elsewhere.
 ghost use Rattle.std.specs.Prelude.{◌≡◌, List, ℕ, length};
 ghost use Rattle.words.specs.Word.{Pow};
 ghost use Rattle.tables.specs.Access as X;

@@ -18,6 +18,7 @@ fn last_read(booked: BookedTokens, moved: u32) -> bool
     booked.transfer == Transfer::Take && words::add(moved, 1) == booked.count
 }
 
+// A steal writes its last token. Each of the two is a definition's: one of both would have to say which transfer it asks of.
 fn last_written(booked: BookedTokens, moved: u32) -> bool
     ensures { result ≡ T.last_written width booked.transfer booked moved }
 {
@@ -91,8 +92,8 @@ fn landed(s: Context, booked: BookedTokens, last: u64) -> Next
     }
 }
 
-pub fn wants(place: MovePlace, s: Context) -> Wanted
-    ensures { result ≡ Y.wanted (T.move_row width s place) }
+pub fn wants(place: MovePlace) -> Wanted
+    ensures { (s : Context) → result ≡ Y.wanted (T.move_row width s place) }
 {
     match place {
         MovePlace::ReadSlot { booked, moved } => {

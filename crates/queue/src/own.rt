@@ -127,9 +127,8 @@ pub fn wants(place: OwnPlace, s: Context) -> Wanted
     }
 }
 
-fn extended(s: Context, pops: u32, tail: u32, limit: u32, written: u32, seen: Seen) -> Next
-    ensures { result
-        ≡ (T.extend_row width s s.mark pops tail limit written).after seen }
+fn extended(s: Context, pops: u32, tail: u32, limit: u32, written: u32) -> Next
+    ensures { (seen : Seen) → result ≡ (T.extend_row width s s.mark pops tail limit written).after seen }
 {
     if let Mark::Carry(token) = s.mark {
         let more = extending(pops, words::add(tail, 1), limit, words::add(written, 1));
@@ -220,7 +219,7 @@ pub fn advance(place: OwnPlace, s: Context, seen: Seen) -> Next
             tail,
             limit,
             written,
-        } => extended(s, pops, tail, limit, written, seen),
+        } => extended(s, pops, tail, limit, written),
         OwnPlace::ExtendStore { written, .. } => row::ends(
             s,
             Answer::Extended(written),

@@ -45,6 +45,7 @@ fn run(
             break;
         }
         let mut used = 0;
+        // No index is counted: a turn goes on by what was used.
         while used < n {
             let fed = run::feed(r, items, &buf[used..n], out);
             output

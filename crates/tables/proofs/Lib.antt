@@ -10,6 +10,7 @@ pub mod Places
 pub mod Marks
 pub mod Starts
 pub mod Sound
+pub mod Numbers
 pub mod Refused
 pub mod After
 pub mod Steps

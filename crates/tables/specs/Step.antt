@@ -132,9 +132,13 @@ with_party m who p = record { parties = m.parties; party = set m.party who p; qu
 abbrev pub begun : Machine → ℕ → Call → Machine
 begun m who c = with_party m who (record { place = start (kind_at m who) c; drain = (party_at m who).drain })
 
+-- of a party that is there
+abbrev pub start_refusal : (parties who : ℕ) → Place → Call → ℕ
+start_refusal n who p c = pick (is_idle p) (pick (ltb (call_source who c) n) 0 5) 3
+
 -- in the order 1, 2, 3, 5: `ok` is the record test's result
 abbrev pub begin_order : (ok : Bool) → (parties who : ℕ) → Place → Call → ℕ
-begin_order ok n who p c = pick ok (pick (ltb who n) (pick (is_idle p) (pick (ltb (call_source who c) n) 0 5) 3) 2) 1
+begin_order ok n who p c = pick ok (pick (ltb who n) (start_refusal n who p c) 2) 1
 
 unfoldable pub begin_refusal : ℕ → ℕ → Machine → (lent : ℕ) → ℕ → Call → ℕ
 begin_refusal w most m lent who c = begin_order (sound w most m lent) m.parties who (party_at m who).place c
@@ -283,9 +287,13 @@ runs w who budget r = until (stops who) (λ x. onward x (taken w x.machine x.ite
 abbrev pub still : Machine → List ℕ → ℕ → Alone
 still m xs k = record { machine = m; items = xs; answer = None; effects = []; steps = 0; refusal = k }
 
+-- of a party that is there
+abbrev pub run_refusal : Place → ℕ
+run_refusal p = pick (is_idle p) 4 0
+
 -- in the order 1, 2, 4
 abbrev pub alone_order : (ok : Bool) → (parties who : ℕ) → Place → ℕ
-alone_order ok n who p = pick ok (pick (ltb who n) (pick (is_idle p) 4 0) 2) 1
+alone_order ok n who p = pick ok (pick (ltb who n) (run_refusal p) 2) 1
 
 unfoldable pub alone_refusal : ℕ → ℕ → Machine → (lent : ℕ) → ℕ → ℕ
 alone_refusal w most m lent who = alone_order (sound w most m lent) m.parties who (place_at m who)

@@ -20,7 +20,7 @@ pub enum Access {
 }
 
 // What an access shows its party: a word, the packed word, a token; whether a compare-exchange stored. All are there at every access, 0
-// where it shows none of them, so that a row reads its own without a case for the others (`Row.after`).
+// where it shows none of them (`stored`: true), so that a row reads its own without a case for the others (`Row.after`).
 #[derive(Clone, Copy)]
 pub struct Seen {
     pub word: u32,
@@ -62,7 +62,7 @@ pub struct Next {
     pub change: Option<Change>,
 }
 
-// What a step wants to be carried: nothing, a number, or a token or end.
+// What a step wants to be carried: nothing, a number, or a token or end. No `Option` of two: the three are matched as one (`mark_fits`).
 #[derive(Clone, Copy, PartialEq, Eq)]
 pub enum Wish {
     Nothing,

@@ -77,8 +77,8 @@ pub struct Effect {
     pub change: Change,
 }
 
-// A run alone has at most three, dropped ones in a row as one; any other act has one at most. An array with its count: both are words of
-// the reply that a host in C reads.
+// A run alone has at most three, dropped ones in a row as one; any other act has one at most. The count stands beside the list for the C
+// interface: it is a word of the reply that a host reads (`block::reply::reply_words`).
 #[derive(Clone, Copy)]
 pub struct Effects {
     pub count: u32,
@@ -95,14 +95,14 @@ pub struct Reply {
 
 // ---- the rows in code
 
-// An answer's row: this paper's number, and the values that it names.
+// An answer's row: this paper's number, and the values that it names. The number is for the C interface: a host reads it.
 #[derive(Clone, Copy)]
 pub struct AnswerColumns {
     pub number: u8,
     pub values: Values,
 }
 
-// An effect's row, likewise.
+// An effect's row, likewise; whether it lands, and how many it drops (0: it drops none), which the sum of a run adds up.
 #[derive(Clone, Copy)]
 pub struct ChangeColumns {
     pub number: u8,
@@ -171,13 +171,6 @@ pub fn answer_row(a: Answer) -> AnswerColumns
         Answer::Yes => answered(15, no_values()),
         Answer::No => answered(16, no_values()),
     }
-}
-
-// The call is under way.
-pub fn is_pending(answer: Option<Answer>) -> bool
-    ensures { result ≡ Aw.is_pending answer }
-{
-    answer.is_none()
 }
 
 fn changed(number: u8, values: Values, lands: bool, drops: u64) -> ChangeColumns

@@ -8,8 +8,8 @@ pub const MOST: usize = 16;
 // Which of the two queues of the Rust crate it is.
 #[derive(Clone, Copy, PartialEq, Eq)]
 pub enum Kind {
-    Lifo,
-    Fifo,
+    Lifo = 0,
+    Fifo = 1,
 }
 
 // A queue's words. `pushes` is LIFO's push count and FIFO's tail; `packed` is LIFO's (pop count, booked head) and FIFO's (worker
@@ -37,7 +37,8 @@ pub struct Party {
     pub drain: Drain,
 }
 
-// The machine: its first `parties` parties, each with the queue of the same number; the entries after them are there and unused.
+// The machine: its first `parties` parties, each with the queue of the same number; the entries after them are there and unused. Arrays by
+// value, by a rule of the project: memory is fixed. Two, since a block has all parties' words before the queues'.
 #[derive(Clone, Copy)]
 pub struct Machine {
     pub parties: u32,
@@ -52,7 +53,8 @@ pub struct Acted {
     pub reply: Result<Reply, Refusal>,
 }
 
-// What an opening gives. Refused, it gives a machine too: no parties, of the kinds asked for.
+// What an opening gives. Refused, it gives a machine too, which `block::open::open` writes: no parties, of the kind asked for. So it is no
+// `Result`.
 #[derive(Clone, Copy)]
 pub struct Opened {
     pub machine: Machine,

@@ -20,6 +20,8 @@ pub struct Aim {
     pub rule: Rule,
 }
 
+// A line as it is read. A malformed one is a line like the others: it is refused, or passed by once the run is over (`line_taken`), so
+// that there is no `Option` of a line.
 #[derive(Clone, Copy)]
 pub enum Line {
     Machine(Kind, u64),

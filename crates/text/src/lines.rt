@@ -50,6 +50,7 @@ pub fn lines(
     let mut m = *machine;
     let mut line = session.line;
     let mut from = from;
+    // No index is counted: a turn goes on by a line.
     while out.has_room() {
         let Some(found) = find::next_line(piece, from) else {
             break;

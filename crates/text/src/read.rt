@@ -159,7 +159,7 @@ fn queue(mut fields: Fields<'_>) -> Option<Line>
     ensures { result ≡ L.queue_line width (left fields.entry) }
 {
     let request = number(fields.next()?)?;
-    let position = u32::try_from(last_number(fields)?).ok()?;
+    let position = words::word_of(last_number(fields)?)?;
     Some(Line::Queue { request, position })
 }
 

@@ -51,7 +51,8 @@ pub struct Fed {
     pub put: usize,
 }
 
-// A run after some of its rest lines: how many bytes were written, and whether nothing is left to be.
+// A run after some of its rest lines: how many bytes were written, and whether nothing is left to be. The run and the bytes are there
+// either way.
 #[derive(Clone, Copy)]
 pub struct Rested {
     pub run: Run,
@@ -166,6 +167,7 @@ impl Run {
         ensures over { (Wr.room_of out.new < F.enough) ⊎ (length piece.now ≤ result) }
     {
         let mut used = 0;
+        // No index is counted: a turn goes on by what was used.
         while used < piece.len() && out.has_room() {
             used = self.one_line(items, piece, used, out);
             used = self.many_lines(items, piece, used, out);
@@ -248,6 +250,7 @@ impl Run {
     {
         let queues = self.queues();
         let mut at = self.at;
+        // No index is counted: a turn goes on by a part of a line.
         while at.queue < queues && out.has_room() {
             let resting = rest::resting_of(&self.machine, at.queue);
             put_part(items, resting, at, out);

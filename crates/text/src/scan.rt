@@ -2,7 +2,7 @@
 ghost use Rattle.std.specs.Prelude.{◌≡◌, ◌+◌, ◌≤◌, length};
 ghost use Rattle.text.specs.Bytes.{slice, index_of};
 
-// The part's end, where it has no such byte.
+// The part's end, where it has no such byte: no `Option`, since a caller cuts there either way.
 pub fn find(s: &[u8], from: usize, end: usize, byte: u8) -> usize
     requires ordered { from ≤ end }
     requires within { end ≤ length s.now }

@@ -129,7 +129,8 @@ impl<'a> Out<'a> {
     }
 }
 
-// n's digits fill the text from its end on; the first of them is answered.
+// n's digits fill the text from its end on; the first of them is answered. No `Display`, here and below: nothing is promised of what it
+// writes, and each byte is promised here (`Puts`).
 fn digits(n: u64, text: &mut [u8; DIGITS]) -> usize
     ensures within { result ≤ 20 }
     ensures digits_are { drop result text.new ≡ decimal_of n }

@@ -1,8 +1,8 @@
 // Words that turn over, two words in one, and the capacities of a ring of slots.
 #![tactic(auto)]
 
-ghost use Rattle.std.specs.Prelude.{◌≡◌, ◌-◌, ◌^◌, ◌≤◌, nat_lt};
-ghost use Rattle.words.specs.Word.{plus, minus, packed, Unpacked, slot_of, Pow, pow_below, capacity_of, least_of};
+ghost use Rattle.std.specs.Prelude.{◌≡◌, ◌-◌, ◌^◌, ◌≤◌, nat_lt, Some, None};
+ghost use Rattle.words.specs.Word.{plus, minus, packed, Unpacked, slot_of, Pow, pow_below, capacity_of, least_of, pick};
 ghost use Rattle.words.specs.Edition.{width};
 
 // A position counts on and turns over; only `slot_of` makes a slot of it.
@@ -58,11 +58,11 @@ pub fn largest() -> u32
     u32::MAX
 }
 
-// Whether a number is a word: a position is one.
-pub fn is_word(n: u64) -> bool
-    ensures { result ≡ nat_lt n (2 ^ width) }
+// A number as a word, if it is one: a position is.
+pub fn word_of(n: u64) -> Option<u32>
+    ensures { result ≡ pick (nat_lt n (2 ^ width)) (Some n) None }
 {
-    u32::try_from(n).is_ok()
+    u32::try_from(n).ok()
 }
 
 // The largest capacity.
