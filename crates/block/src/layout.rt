@@ -144,6 +144,7 @@ pub fn queue_words(queue: Queue) -> [u64; QUEUE_SIZE]
 
 // ---- where they stand
 
+// Not one function for both: the length of the array would be a constant of a trait. That i is below the limit is asked as in `Record`.
 pub fn party_at(block: &[u64], i: usize) -> Party
     requires within { i < most }
     requires long { B.size most ≤ length block.now }
@@ -213,7 +214,7 @@ pub struct WordsMut<'a> {
 }
 
 impl WordsMut<'_> {
-    // Words put one after the other.
+    // Words put one after the other. That the words are the same ones is of two moments, and no ghost field: each function says it.
     pub fn put(&mut self, at: usize, part: &[u64])
         requires { at + length part.now ≤ length self.old.words.now }
         ensures same { self.new.words.ghost_name ≡ self.old.words.ghost_name }

@@ -26,6 +26,7 @@ pub fn rule_of(rule: u64, number: u64) -> Rule
     }
 }
 
+// Beside `rule_of`, which reads every number: what names a rule is tested here.
 fn known_rule(rule: u64, number: u64) -> Option<Rule>
     ensures { result ≡ C.where_known (ltb rule 4) (C.rule_of rule number) }
 {

@@ -52,7 +52,7 @@ pub fn call_known(call: u64, rule: u64) -> bool
     if has_rule(call) { rule < 4 } else { call < 10 }
 }
 
-// The call that the numbers name, if they name one.
+// The call that the numbers name, if they name one. Beside `call_of`, which reads every number.
 pub fn known_call(call: u64, source: u64, rule: u64, number: u64) -> Option<Call>
     ensures { result ≡ where_known (N.call_known call rule) (N.call_of call source rule number) }
 {
@@ -74,7 +74,7 @@ pub fn mark_of(mark: u64, number: u64) -> Mark
     }
 }
 
-// The mark that the number names, if it names one.
+// The mark that the number names, if it names one. Beside `mark_of`, which reads every number.
 pub fn known_mark(mark: u64, number: u64) -> Option<Mark>
     ensures { result ≡ where_known (N.mark_known mark) (N.mark_of mark number) }
 {

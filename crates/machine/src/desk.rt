@@ -88,6 +88,7 @@ impl Stretches {
         whose == Whose::Source && self.from != self.who
     }
 
+    // `base`, `site` and `queue` choose of fields of three types: one function of a pair is no plainer than the `if`.
     pub(super) fn base(self, away: bool) -> usize
         ensures { result ≡ D.base_for away self }
     {

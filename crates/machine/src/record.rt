@@ -13,7 +13,7 @@ pub trait Record {
     fn parties(&self) -> u32
         ensures { result ≡ (machine self.now).parties };
 
-    // That i is below the limit is asked and no type of it: it is read off the record, as a source or a count.
+    // That i is below the limit is asked and no type of it: an index type would be built at each call from the same proof.
     fn party(&self, i: usize) -> Party
         requires { i < most }
         ensures party_is { result ≡ party_at (machine self.now) i }

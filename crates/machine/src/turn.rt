@@ -25,7 +25,7 @@ pub fn is_weak(mark: Mark) -> bool
 }
 
 // A party's desk, and where its queues' stretches start. `Ready` is a premise of its methods and no ghost field: it speaks of the
-// items too, and a seat that held them would have to give them back, which is no plainer.
+// items too, and a seat that held them would have to say in each clause that they are the same ones, which is no plainer.
 #[derive(Clone, Copy)]
 pub struct Seat {
     pub at: Stretches,
@@ -242,6 +242,7 @@ impl Seat {
         Ok(self.alone(items, budget))
     }
 
+    // `Act` is a public enum that a host hands over: one match, and no closures.
     pub(super) fn turned(self, parties: u32, items: &mut [u64], act: Act) -> Result<Turn, Refusal>
         requires { D.Ready self.at self.desk (length items.old) }
         ensures { D.with result items.new ≡ D.turned width parties self.at self.desk items.old act }

@@ -12,6 +12,7 @@ use tables::call::{Mark, Rule};
 use tables::place::{BookedTokens, BookingCall, MovePlace, Place, Transfer};
 use tables::state::Drain;
 
+// 0 where the mark carries none, as the definition says: a step that wants a number and brings none is refused before.
 fn carried(mark: Mark) -> u64
     ensures { result ≡ R.carried mark }
 {

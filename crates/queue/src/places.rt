@@ -199,6 +199,7 @@ fn transfer_call(source: u64, rule: Rule, transfer: Transfer) -> TransferCall
     }
 }
 
+// No twin of `start_fifo`: of the ten arms only next and drop are the same.
 fn start_lifo(call: Call) -> Place
     ensures { result ≡ T.start_lifo call }
 {

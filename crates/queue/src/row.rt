@@ -6,7 +6,7 @@ use tables::access::{Access, Context, Next, Wanted, Whose};
 use tables::answer::{Answer, Change};
 use tables::place::Place;
 
-// An access to the party's own queue.
+// An access to the party's own queue. `own` and `source` are two names, so that each row says whose queue it is.
 pub fn own(access: Access) -> Wanted
     ensures { result ≡ record { whose = Whose.Own; access = access } }
 {

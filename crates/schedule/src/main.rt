@@ -36,6 +36,7 @@ fn run(
     requires { 128 ≤ length out.old }
 {
     let mut r = run::start(items);
+    // A `for`, since each loop is proved to end; so is the other.
     for _ in 0..u64::MAX {
         if run::is_over(r) {
             break;

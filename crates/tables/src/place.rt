@@ -165,7 +165,7 @@ pub enum BookPlace {
     },
 }
 
-// Booked tokens moved one by one, then the destination's store.
+// Booked tokens moved one by one, then the destination's store. A steal's `last` is 0, as the tables and a block's words have it.
 #[derive(Clone, Copy)]
 pub enum MovePlace {
     ReadSlot {

@@ -5,6 +5,7 @@ ghost use Rattle.text.specs.Find.{next_line};
 
 use super::{Found, quick, read, scan};
 
+// The block and a place in it, as in quick.rt.
 pub fn next_line(s: &[u8], from: usize) -> Option<Found>
     requires { from ≤ length s.now }
     ensures { result ≡ next_line width s.now from }

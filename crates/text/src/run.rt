@@ -20,7 +20,7 @@ use tables::state::{Kind, MOST, Machine};
 // So many bytes of a line are kept: one more than the longest has.
 const KEPT: usize = 121;
 
-// The line at hand: the first `count` bytes. No bound on `count`: a run handed in with a larger one is taken as one of all bytes.
+// The line at hand: the first `count` bytes, in memory that is fixed by a rule of the project. No bound on `count`: a run handed in with a larger one is taken as one of all bytes.
 #[derive(Clone, Copy)]
 pub struct Held {
     pub bytes: [u8; KEPT],
@@ -43,7 +43,7 @@ pub struct Run {
     pub at: Cursor,
 }
 
-// A run after a piece of input: how many of its bytes were used, and how many were written.
+// A run after a piece of input: how many of its bytes were used, and how many were written, in numbers, since a run is handed on by value.
 #[derive(Clone, Copy)]
 pub struct Fed {
     pub run: Run,
@@ -250,7 +250,7 @@ impl Run {
     {
         let queues = self.queues();
         let mut at = self.at;
-        // No index is counted: a turn goes on by a part of a line.
+        // No `for`: the cursor is kept for the next call, and a turn goes on by a part of a line.
         while at.queue < queues && out.has_room() {
             let resting = rest::resting_of(&self.machine, at.queue);
             put_part(items, resting, at, out);

@@ -23,6 +23,7 @@ pub enum Stage {
     Over,
 }
 
+// What was asked stands beside the stage and not in it: the definitions say what it is at every stage (`started`, `queue_asked`).
 #[derive(Clone, Copy)]
 pub struct Session {
     pub line: u64,
