@@ -52,6 +52,8 @@ fn push_room(s: Context, token: u64, word: u32, tail: u32, head: u32) -> Next
 }
 
 // The words are loaded for a push, an extend or a spare.
+// What the loads found stands apart, as the definition takes it (`T.filled`): a struct of it would be built in two places and taken apart
+// in three, which is no plainer.
 pub fn filled(s: Context, call: OwnerCall, word: u32, pops: u32, tail: u32, head: u32) -> Next
     ensures { result ≡ T.filled width s call word pops tail head }
 {

@@ -27,7 +27,8 @@ pub struct Held {
     pub count: usize,
 }
 
-// How far the rest lines have come: the next part of a queue's line.
+// How far the rest lines have come: the next part of a queue's line, 0 its head, then each token, then the newline. A number, since any run
+// may be handed to `rests`.
 #[derive(Clone, Copy)]
 pub struct Cursor {
     pub queue: u64,
