@@ -1,5 +1,6 @@
 -- What the code gives back along a schedule: one call of `machine::apply` a line, each on the machine and the items that the one before
--- left. Its contract is the equation that `InARow` asks of each outcome, as that of `machine::open` is the one that Fresh asks of the first.
+-- left. Its contract is the equation that `InARow` asks of each outcome, as that of `machine::open` is the one that Fresh asks of the first,
+-- its refusal by name (`opened_as`).
 use Rattle.std.specs.Prelude.{ℕ, ◌≡◌, List, [], ◌∷◌, take, Option, Some, None, Result, Ok, Err}
 use Rattle.tables.specs.declared.answer.Effect.{Effect}
 use Rattle.tables.specs.declared.answer.Effects.{Effects}

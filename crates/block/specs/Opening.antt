@@ -1,12 +1,8 @@
 -- Opening in a block: the machine that document 01's opening gives, whether refused or not, is what the block then holds.
-use Rattle.std.specs.Prelude.{ℕ, ◌<◌, List, ◌⊎◌, Option, Some, None, ltb, length, get_or, drop}
+use Rattle.std.specs.Prelude.{ℕ, ◌<◌, List, ◌⊎◌, ltb, length, get_or, drop}
 use Rattle.words.specs.Word.{pick}
-use Rattle.tables.specs.declared.answer.Refusal.{Refusal}
 use Rattle.tables.specs.declared.state.Machine.{Machine}
-use Rattle.tables.specs.declared.state.Opened.{Opened}
-use Rattle.tables.specs.Refusal.{number_of}
-use Rattle.tables.specs.Step as St
-use Rattle.tables.specs.Step.{every_kind}
+use Rattle.tables.specs.Step.{Opening, opening, every_kind}
 use Rattle.block.specs.Block.{size, table, kind_of, seal_words, no_reply}
 use Rattle.block.specs.Contents.{Contents, contents_in}
 
@@ -29,13 +25,8 @@ left_at k h = record { held = h; refusal = k }
 abbrev pub fresh : (beyond : List ℕ) → Machine → Contents
 fresh rest m = record { head = seal_words m.parties; machine = m; reply = no_reply; beyond = rest }
 
--- 0, or the refusal's number
-abbrev pub code_if : Option Refusal → ℕ
-code_if None = 0
-code_if (Some e) = number_of e
-
-abbrev pub opened_as : (beyond : List ℕ) → Opened → LeftAt
-opened_as rest o = left_at (code_if o.refusal) (fresh rest o.machine)
+abbrev pub opened_as : (beyond : List ℕ) → Opening → LeftAt
+opened_as rest o = left_at o.refusal (fresh rest o.machine)
 
 -- Words too few for a block, and a kind that is none, are refused with 1 and left as they came.
 abbrev pub IsUntouched : (most : ℕ) → List ℕ → (kind : ℕ) → Type 0
@@ -46,6 +37,4 @@ opened w most xs k n rs ps lent =
     pick (ltb (length xs) (size most)) (left_at 1 (contents_in w most xs))
     (pick (ltb 1 k) (left_at 1 (contents_in w most xs))
     (opened_as (drop (size most) xs)
-    (St.opened_as
-    (St.opening w most (every_kind most (kind_of k)) (asked n (length rs) (length ps)) (first_of most rs 0) (first_of most ps 0)
-    lent))))
+    (opening w most (every_kind most (kind_of k)) (asked n (length rs) (length ps)) (first_of most rs 0) (first_of most ps 0) lent)))

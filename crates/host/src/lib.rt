@@ -23,7 +23,9 @@ pub fn act_in_place(
     ensures { record { machine = m.new; items = items.new; reply = result }
         ≡ St.acted width most m.old items.old party act }
 {
+    // One assignment a line: it is the program that proofs/InPlace.antt walks.
     let a = machine::apply(*m, items, party, act);
-    *m = a.machine;
+    let n = a.machine;
+    *m = n;
     a.reply
 }

@@ -60,7 +60,7 @@ fn limit_of(call: BookingCall) -> u32
 }
 
 // How many to book, of n seen.
-fn count_of(mark: Mark, call: BookingCall, n: u32) -> u32
+pub fn count_of(mark: Mark, call: BookingCall, n: u32) -> u32
     ensures { result ≡ least_of (R.ruled (T.rule_of call) mark n) (T.limit_of width call) n }
 {
     words::least(ruled(rule_of(call), mark, n), limit_of(call), n)

@@ -3,7 +3,8 @@ use Rattle.std.proofs.Common.{◌≡◌, ℕ, suc, ◌+◌, ◌-◌, ◌/◌, �
 use lib.Seq.{sets}
 use borrow.Rule.Slice.PartMut.{put_mid, Post-is}
 use Rattle.std.proofs.lemmas.List.Edits.{sets-eq}
-use Rattle.text.specs.Number.{digits_to}
+use Rattle.text.specs.Ascii.{ascii}
+use Rattle.text.specs.Number.{digits_to, decimal_of}
 use Rattle.text.specs.declared.write.Out.{Out}
 use Rattle.text.specs.Write.{Wrote, Puts, field_for, fields_for}
 
@@ -47,6 +48,11 @@ front l j d h =
 digits_last : (f n : ℕ) (after : List ℕ) → n / 10 ≡ 0 → digits_to (f + 1) n after ≡ (48 + n % 10) ∷ after
 unfolding digits_to
 digits_last f n after h = rw (add-one, eq-eqb (n / 10) 0 h)
+
+-- a number below 10 is one digit
+pub one_digit : (n : ℕ) → n ≤ 9 → field_for n ++ ascii "\n" ≡ 9 ∷ (48 + n) ∷ 10 ∷ []
+unfolding decimal_of
+one_digit n h = rw (digits_last 19 n [] (omega (arith, h))) (ap (λ (d : ℕ). 9 ∷ (48 + d) ∷ 10 ∷ []) (omega (arith, h)))
 
 digits_next : (f n : ℕ) (after : List ℕ) → (n / 10 ≡ 0 → ⊥) → digits_to (f + 1) n after ≡ digits_to f (n / 10) ((48 + n % 10) ∷ after)
 unfolding digits_to
